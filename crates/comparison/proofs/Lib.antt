@@ -1,0 +1,4 @@
+pub mod ByteOrders
+pub mod Lawful
+pub mod Contents
+pub mod Compared

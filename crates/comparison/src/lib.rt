@@ -1,0 +1,3 @@
+//! When two values are equal, and which comes first.
+pub mod bytes;
+pub mod data;

@@ -1,0 +1,2 @@
+//! A literal brought to the kind of the column that it is compared with.
+pub mod convert;

@@ -1,0 +1,2 @@
+pub mod TotalOrder
+pub mod Patterns

@@ -1,0 +1,4 @@
+pub mod Kinds
+pub mod Contents
+pub mod Kept
+pub mod Refusals

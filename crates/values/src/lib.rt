@@ -1,0 +1,4 @@
+//! Values: kinds, literals, their equality, order and conversion, and the refusals of every layer.
+pub mod kinds;
+pub mod literals;
+pub mod refusals;
