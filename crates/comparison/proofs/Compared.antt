@@ -148,6 +148,9 @@ ordered a b =
 
 -- ---- equality
 
+pub with-kinds : (p x r : Bool) → true ≡ p → r ≡ x → r ≡ (p && x)
+with-kinds p x r h e = e ∙ ap (λ (b : Bool). b && x) h
+
 -- with the kinds one, the contents decide
 pub by-contents : (a b : Datum) (r : Bool) → a .kind ≡ b .kind → r ≡ same-content (a .content) (b .content) → Decides r (a ≡ b)
 by-contents a b r e h = (

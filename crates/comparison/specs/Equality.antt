@@ -5,7 +5,8 @@ use Prim.Native.Nat.{ℕ}
 use lib.Dec.{eqb}
 use lib.IntN.{ℤ, pos, negsuc}
 use Rattle.std.specs.shelf.Text.{sameBytes}
-use Rattle.values.specs.Contents.{Numeric, Textual, Content, number, bytes, above-max, below-min}
+use Rattle.values.specs.Contents.{Numeric, Textual, Content, number, bytes, above-max, below-min, Datum}
+use Rattle.values.specs.Kinds.{same-kind}
 use Rattle.values.specs.Kept.{numeric-code, textual-code}
 
 abbrev pub same-number : ℤ → ℤ → Bool
@@ -43,3 +44,7 @@ same-content (number s m) c = is-number s m c
 same-content (bytes s a) c = is-bytes s a c
 same-content above-max c = is-above-max c
 same-content below-min c = is-below-min c
+
+-- kind, storage and content agree
+abbrev pub same-datum : Datum → Datum → Bool
+same-datum a b = same-kind (a .kind) (b .kind) && same-content (a .content) (b .content)

@@ -14,7 +14,7 @@ ghost use Prim.Native.Nat.{ℕ};
 ghost use Rattle.std.specs.Orderings.{Decides};
 ghost use Rattle.values.specs.Contents.{content-of, datum-of};
 ghost use Rattle.comparison.specs.Orders.{content-order, comparable, compared};
-ghost use Rattle.comparison.specs.Equality.{same-content};
+ghost use Rattle.comparison.specs.Equality.{same-content, same-datum};
 ghost use Rattle.comparison.specs.Laws.{Ordered};
 
 fn compare_values(a: Value, a_text: &[u8], b: Value, b_text: &[u8]) -> Option<Ordering>
@@ -74,6 +74,7 @@ fn same_values(a: Value, a_text: &[u8], b: Value, b_text: &[u8]) -> bool
 
 // Whether kind, storage and content agree.
 pub fn same(a: &Literal, a_text: &[u8], b: &Literal, b_text: &[u8]) -> bool
+    ensures compares_kind_and_content { λ r. ⌜ r ≡ same-datum (datum-of (now («a_text» .entry)) (now (a .entry))) (datum-of (now («b_text» .entry)) (now (b .entry))) ⌝ }
     ensures tells_equal_data { λ r. ⌜ Decides r (datum-of (now («a_text» .entry)) (now (a .entry)) ≡ datum-of (now («b_text» .entry)) (now (b .entry))) ⌝ }
 {
     a.kind.is(b.kind) && same_values(a.value, a_text, b.value, b_text)

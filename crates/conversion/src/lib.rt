@@ -1,2 +1,3 @@
 //! A literal brought to the kind of the column that it is compared with.
+pub mod checked;
 pub mod convert;
