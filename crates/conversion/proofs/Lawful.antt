@@ -1,12 +1,12 @@
 -- The laws of conversion.
 use mathlib.Core.Path.{_≡_, refl, sym, ap, subst, _∙_}
 use mathlib.Core.Logic.{_⊎_, inl, inr}
-use mathlib.Core.Bool.{Bool, true, false, cond, _&&_, true≢false}
+use mathlib.Core.Bool.{Bool, true, false, cond, true≢false}
 use mathlib.Core.List.{List}
 use Prim.Native.Nat.{ℕ}
 use native.Mathlib.Omega.{arith}
 use lib.Dec.{eqb}
-use lib.IntN.{ℤ, pos, negsuc, _+ℤ_, _*ℤ_}
+use lib.IntN.{ℤ, pos, negsuc}
 use lib.Signed.{ltZ, _≤ℤ_, _<ℤ_}
 use Rattle.std.proofs.shelf.Signed.{ints}
 use Rattle.std.proofs.shelf.Tests.{and-parts, and-from, eqb-true, eq-eqb}
@@ -15,7 +15,7 @@ use Rattle.std.specs.declared.result.Result.the-variants.{Ok, Err}
 use Rattle.values.specs.declared.kinds.Kind.{Kind}
 use Rattle.values.specs.declared.kinds.Kind.the-variants as K
 use Rattle.values.specs.Kinds.{place-of, length-of, same-kind}
-use Rattle.values.specs.Contents.{Numeric, boolean, int, long, float, double, Textual, string, binary, Content, number, bytes, above-max, below-min, Datum}
+use Rattle.values.specs.Contents.{boolean, int, long, float, double, string, binary, Content, number, bytes, above-max, below-min, Datum}
 use Rattle.values.specs.Kept.{well-kept-datum}
 use Rattle.conversion.specs.declared.convert.Misfit.{Misfit}
 use Rattle.conversion.specs.declared.convert.Misfit.the-variants.{NotConvertible, TextNotRead}

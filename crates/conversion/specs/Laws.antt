@@ -4,7 +4,7 @@ use mathlib.Core.Logic.{_⊎_}
 use mathlib.Core.Bool.{true}
 use lib.IntN.{ℤ, pos, negsuc, _+ℤ_, _*ℤ_}
 use lib.Signed.{_≤ℤ_, _<ℤ_}
-use Rattle.std.specs.declared.result.Result.the-variants.{Ok, Err}
+use Rattle.std.specs.declared.result.Result.the-variants.{Ok}
 use Rattle.values.specs.declared.kinds.Kind.{Kind}
 use Rattle.values.specs.declared.kinds.Kind.the-variants as K
 use Rattle.values.specs.Contents.{long, int, Content, number, above-max, below-min, Datum}

@@ -1,7 +1,6 @@
 -- What a value becomes in a column, by the storage that it has and the kind that the column has.
 use mathlib.Core.Bool.{cond}
-use mathlib.Core.List.{List}
-use Prim.Native.Nat.{ℕ, _/_}
+use Prim.Native.Nat.{_/_}
 use lib.IntN.{ℤ, pos, negsuc}
 use lib.Signed.{ltZ}
 use Rattle.std.specs.declared.result.Result.{Result}
@@ -9,7 +8,7 @@ use Rattle.std.specs.declared.result.Result.the-variants.{Ok, Err}
 use Rattle.values.specs.declared.kinds.Kind.{Kind}
 use Rattle.values.specs.declared.kinds.Kind.the-variants as K
 use Rattle.values.specs.Kinds.{same-kind}
-use Rattle.values.specs.Contents.{Numeric, boolean, int, long, float, double, Textual, string, binary, Content, number, bytes, above-max, below-min, Datum}
+use Rattle.values.specs.Contents.{Numeric, boolean, int, long, float, double, string, binary, Content, number, bytes, above-max, below-min, Datum}
 use Rattle.conversion.specs.declared.convert.Misfit.{Misfit}
 use Rattle.conversion.specs.declared.convert.Misfit.the-variants.{NotConvertible, TextNotRead}
 

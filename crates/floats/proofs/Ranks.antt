@@ -1,24 +1,24 @@
 -- totalOrder is the order of the bit patterns read as signs and magnitudes, so it has the laws of the order of numbers.
 use mathlib.Core.Path.{_≡_, refl, sym, ap, subst, _∙_}
 use mathlib.Core.Logic.{_⊎_, inl, inr}
-use mathlib.Core.Bool.{Bool, true, false, not, cond, _||_, _&&_, true≢false, Bool·beq}
+use mathlib.Core.Bool.{Bool, true, false, not, cond, _||_, _&&_, true≢false}
 use Prim.Native.Nat.{ℕ, zero, suc, _+_, _-_, _*_, _/_, _%_, _^_, _≤_, _<_}
-use native.Mathlib.Nat.{le-trans, le-of-eq, lt-of-le-of-lt, eq-or-lt-of-le, le-antisymm, mul-comm, mul-assoc, mul-left-comm, mul-right-comm, mul-le-mul-right, le-div-iff-mul-le, mul-pos, mod-eq-of-lt, suc-mul, zero-mul, zero-add, add-assoc}
+use native.Mathlib.Nat.{le-trans, le-of-eq, lt-of-le-of-lt, eq-or-lt-of-le, le-antisymm, mul-right-comm, mul-le-mul-right, le-div-iff-mul-le, mul-pos, mod-eq-of-lt, suc-mul, zero-mul, zero-add, add-assoc}
 use native.Mathlib.Omega.{arith}
-use lib.Dec.{T, eqb, ltb, leb, lit<, lit≤, lt→ltb, le→leb}
-use lib.IntN.{ℤ, pos, negsuc}
+use lib.Dec.{T, eqb, ltb, leb, lit<}
+use lib.IntN.{ℤ, pos}
 use lib.Pow.{pow-add, pow-pos, shr-mono}
-use lib.Ieee.{Float, Format, binary32, binary64, nan, inf, fin, lt, eq, below, level as alike, isNan, fits, toBits, ofBits, nanBits, top, hid, ones, prec, low, up, down, size}
+use lib.Ieee.{Float, Format, binary32, binary64, nan, inf, fin, lt, eq, below, level as alike, isNan, fits, toBits, ofBits, top, hid, ones, prec, low, up, down, size}
 use lib.Ieee.Digits.{size-lt, size-le, size-reaches}
-use lib.Ieee.Fits.{kept-lt, up-pos, down-pos, two, two-le-pos}
+use lib.Ieee.Fits.{kept-lt, up-pos, down-pos, two}
 use lib.Ieee.Nearest.{div-mono}
 use lib.Ieee.Bits.{ofBits-toBits, toBits-lt, nanBits-is, nanBits-above}
-use Rattle.std.proofs.shelf.Tests.{ltb-true, ltb-false, leb-true, leb-false, eqb-true, eqb-false, lt-ltb, le-ltb, le-leb, lt-leb, cases-lt, eq-eqb}
+use Rattle.std.proofs.shelf.Tests.{ltb-false, leb-true, lt-ltb, le-ltb, le-leb, lt-leb, cases-lt, eq-eqb}
 use Rattle.std.proofs.shelf.Ways.{tells}
 use Rattle.std.specs.Floats.{negative}
 use Rattle.std.specs.declared.cmp.Ordering.{Ordering}
 use Rattle.std.specs.declared.cmp.Ordering.the-variants.{Less, Equal, Greater}
-use Rattle.floats.specs.TotalOrder.{is-zero, total-order, placed, sign-order, before, level, Lawful}
+use Rattle.floats.specs.TotalOrder.{total-order, placed, sign-order, before, level, Lawful}
 use Rattle.floats.specs.Patterns.{rank, rank-order}
 
 -- ---- numbers

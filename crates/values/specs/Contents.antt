@@ -1,11 +1,11 @@
 -- What a value is, apart from where its text lies.
-use mathlib.Core.Bool.{Bool, true, false, cond}
+use mathlib.Core.Bool.{Bool, true, cond}
 use mathlib.Core.List.{List}
 use Prim.Native.Nat.{ℕ, _+_}
 use lib.Dec.{leb}
 use lib.IntN.{ℤ, pos}
 use lib.Ieee.{binary32, binary64}
-use lib.ListN.{length, take, drop}
+use lib.ListN.{take, drop}
 use Rattle.floats.specs.Patterns.{rank}
 use Rattle.values.specs.declared.kinds.Kind.{Kind}
 use Rattle.values.specs.declared.literals.Span.{Span}

@@ -1,6 +1,5 @@
 use mathlib.Core.Path.{_≡_, sym, ap, _∙_}
 use mathlib.Core.Bool.{true}
-use lib.Dec.{eqb}
 use Rattle.std.specs.declared.cmp.Ordering.the-variants.{Equal}
 use Rattle.floats.specs.Patterns.{rank}
 use Rattle.floats.specs.TotalOrder.{placed}
