@@ -1,0 +1,5 @@
+pub mod Firsts
+pub mod Picking
+pub mod Runs
+pub mod Tells
+pub mod Turns
