@@ -35,7 +35,7 @@ fn row_cells(cells: &[Cell]) -> &[Cell]
 
 // The cell that the places lead to from a cell, one place fewer at each call. A group is asked first whether it lies
 // inside the row, beginning at `after` or later, and then for the place.
-fn follow(cells: &[Cell], cell: Cell, after: usize, places: &[usize]) -> Result<Cell, Reason>
+fn follow(cells: &[Cell], cell: Cell, after: usize, places: &[u16]) -> Result<Cell, Reason>
     ensures is_followed { λ r. ⌜ r ≡ followed (now (cells .entry)) cell after (now (places .entry)) ⌝ }
 {
     let [place, rest @ ..] = places else {
@@ -47,10 +47,11 @@ fn follow(cells: &[Cell], cell: Cell, after: usize, places: &[usize]) -> Result<
             if start < after || start > cells.len() || count > cells.len() - start {
                 return Err(Reason::OutsideRow);
             }
-            if *place >= count {
+            let place = *place as usize;
+            if place >= count {
                 return Err(Reason::PlacePastGroup);
             }
-            let at = start + *place;
+            let at = start + place;
             follow(cells, cells[at], at + 1, rest)
         }
     }
@@ -77,7 +78,7 @@ fn read(cell: Cell, text: &[u8], kind: Kind) -> Result<Option<Literal>, Reason>
 impl<'a> CellRow<'a> {
     // The value at the places, counted from the top, under the kind, whatever its storage. The row itself counts as
     // a group, so that no places lead to no value.
-    pub fn look_up(&self, places: &[usize], kind: Kind) -> Result<Option<Literal>, Reason>
+    pub fn look_up(&self, places: &[u16], kind: Kind) -> Result<Option<Literal>, Reason>
         ensures is_looked_up { λ r. ⌜ r ≡ looked-up (now (now (self .entry) .cells)) (now (self .entry) .top) (now (now (self .entry) .text)) (now (places .entry)) kind ⌝ }
         ensures comes_exactly_from_its_cause { λ r. ⌜ Caused (row-cells (now (now (self .entry) .cells))) (row-spot (now (self .entry) .top)) (now (now (self .entry) .text)) (now (places .entry)) kind r ⌝ }
     {
@@ -100,7 +101,7 @@ pub impl<'a> Row for CellRow<'a> as CellRowRow {
         self.text
     }
 
-    fn get(&self, places: &[usize], kind: Kind) -> Result<Option<Literal>, Reason> {
+    fn get(&self, places: &[u16], kind: Kind) -> Result<Option<Literal>, Reason> {
         self.look_up(places, kind)
     }
 }

@@ -22,7 +22,7 @@ pub trait Row {
         ensures is_the_rows_own { λ r. ⌜ now r ≡ words (now (self .entry)) ⌝ };
 
     // The value at the places, counted from the top, under the kind; absent is an answer of its own.
-    fn get(&self, places: &[usize], kind: Kind) -> Result<Option<Literal>, Reason>
+    fn get(&self, places: &[u16], kind: Kind) -> Result<Option<Literal>, Reason>
         ensures says_what_is_reached { λ r. ⌜ said (words (now (self .entry))) r ≡ reached (now (self .entry)) (now (places .entry)) kind ⌝ }
         ensures finds_the_kind_asked { λ r. ⌜ if-found r (λ l. l .kind ≡ kind) ⌝ }
         ensures finds_no_extreme { λ r. ⌜ if-found r (λ l. is-extreme (content-of (words (now (self .entry))) (l .value)) ≡ false) ⌝ }
