@@ -20,7 +20,7 @@ fn textless(cells: &[Cell], top: usize) -> CellRow<'_> {
 }
 
 // Whether each path is refused under the number.
-fn refuses<R: Row, const N: usize>(row: &R, paths: &[[usize; N]], number: u8) -> bool {
+fn refuses<R: Row, const N: usize>(row: &R, paths: &[[u16; N]], number: u8) -> bool {
     for path in paths {
         match row.get(path, Kind::Int) {
             Err(reason) if reason.number() == number => {}
@@ -32,11 +32,11 @@ fn refuses<R: Row, const N: usize>(row: &R, paths: &[[usize; N]], number: u8) ->
     true
 }
 
-fn is_absent<R: Row>(row: &R, path: &[usize]) -> bool {
+fn is_absent<R: Row>(row: &R, path: &[u16]) -> bool {
     matches!(row.get(path, Kind::Int), Ok(None))
 }
 
-fn is_seven<R: Row>(row: &R, path: &[usize]) -> bool {
+fn is_seven<R: Row>(row: &R, path: &[u16]) -> bool {
     matches!(
         row.get(path, Kind::Int),
         Ok(Some(Literal {
@@ -46,7 +46,7 @@ fn is_seven<R: Row>(row: &R, path: &[usize]) -> bool {
     )
 }
 
-fn is_text<R: Row>(row: &R, path: &[usize], bytes: &[u8]) -> bool {
+fn is_text<R: Row>(row: &R, path: &[u16], bytes: &[u8]) -> bool {
     let Ok(Some(found)) = row.get(path, Kind::String) else {
         return false;
     };
