@@ -1,0 +1,5 @@
+pub mod Equality
+pub mod Edits
+pub mod Calls
+pub mod Ways
+pub mod Law

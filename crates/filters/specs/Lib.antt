@@ -1,0 +1,4 @@
+pub mod Trees
+pub mod Meanings
+pub mod Runs
+pub mod Placed

@@ -1,0 +1,5 @@
+pub mod Families
+pub mod Literals
+pub mod Grown
+pub mod Steps
+pub mod Lawful

@@ -1,0 +1,6 @@
+mod Found
+mod Printed
+mod Named
+mod FloatBytes
+mod Quotes
+mod Colons

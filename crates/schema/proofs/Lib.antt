@@ -1,0 +1,10 @@
+pub mod Counting
+pub mod Decisions
+pub mod Ends
+pub mod Equals
+pub mod Finds
+pub mod Hits
+pub mod Listing
+pub mod Places
+pub mod Reaching
+pub mod Walks
