@@ -41,7 +41,12 @@ fn at_call(reason: Reason) -> Refused {
 }
 
 // Says where a field lies in a row.
-fn say_places(rt: &LibcRuntime, schema: &Schema<'_>, field: usize, name: &[u8]) -> io::Result<Outcome> {
+fn say_places(
+    rt: &LibcRuntime,
+    schema: &Schema<'_>,
+    field: usize,
+    name: &[u8],
+) -> io::Result<Outcome> {
     let name = Name(name);
     match schema.accessor(field) {
         Ok(accessor) => {
@@ -57,7 +62,12 @@ fn say_places(rt: &LibcRuntime, schema: &Schema<'_>, field: usize, name: &[u8]) 
     }
 }
 
-fn say_value(rt: &LibcRuntime, row: &CellRow<'_>, schema: &Schema<'_>, field: usize) -> io::Result<Outcome> {
+fn say_value(
+    rt: &LibcRuntime,
+    row: &CellRow<'_>,
+    schema: &Schema<'_>,
+    field: usize,
+) -> io::Result<Outcome> {
     let accessor = match schema.accessor(field) {
         Ok(accessor) => accessor,
         Err(reason) => return refuse(rt, at_call(reason)),
@@ -65,7 +75,10 @@ fn say_value(rt: &LibcRuntime, row: &CellRow<'_>, schema: &Schema<'_>, field: us
     match row.look_up(accessor.places(), accessor.kind()) {
         Ok(None) => println!(rt, "   absent")?,
         Ok(Some(literal)) => {
-            let value = Shown { literal, text: row.text };
+            let value = Shown {
+                literal,
+                text: row.text,
+            };
             println!(rt, "   {value}")?
         }
         Err(reason) => return refuse(rt, at_call(reason)),
@@ -91,7 +104,11 @@ impl Columns {
     fn add(&mut self, rt: &LibcRuntime, name: &[u8], field: Field) -> io::Result<Outcome> {
         let place = self.fields.len();
         let span = keep(&mut self.names, name)?;
-        self.fields.push(Field { name: span, ..field })?;
+        self.fields
+            .push(Field {
+                name: span,
+                ..field
+            })?;
         let shown = Name(name);
         println!(rt, "   {shown} is field {place}")?;
         Ok(Outcome::Granted)

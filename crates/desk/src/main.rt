@@ -6,6 +6,7 @@ mod script;
 mod show;
 mod tally;
 mod weigh;
+
 use crate::obey::Desk;
 use crate::tally::Tally;
 use crate::tally::TallyDisplay;

@@ -49,7 +49,12 @@ impl Desk {
     }
 
     // Does what the line says; nothing where it is blank or a comment.
-    pub fn obey(&mut self, rt: &LibcRuntime, number: u64, line: &str) -> io::Result<Option<Outcome>> {
+    pub fn obey(
+        &mut self,
+        rt: &LibcRuntime,
+        number: u64,
+        line: &str,
+    ) -> io::Result<Option<Outcome>> {
         let bytes = line.as_bytes();
         let outcome = match parse(bytes) {
             Ok(None) => return Ok(None),

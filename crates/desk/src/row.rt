@@ -40,10 +40,16 @@ fn say(rt: &LibcRuntime, word: CellWord, line: &[u8], place: usize) -> io::Resul
     match word {
         CellWord::Null => println!(rt, "   cell {place} is null"),
         CellWord::Value(literal) => {
-            let value = Shown { literal, text: line };
+            let value = Shown {
+                literal,
+                text: line,
+            };
             println!(rt, "   cell {place} holds {value}")
         }
-        CellWord::Group { start, count } => println!(rt, "   cell {place} is a group of {count} cells from cell {start}"),
+        CellWord::Group { start, count } => println!(
+            rt,
+            "   cell {place} is a group of {count} cells from cell {start}"
+        ),
         CellWord::List => println!(rt, "   cell {place} is a list or map"),
     }
 }
@@ -71,7 +77,9 @@ impl RowSheet {
         let place = self.cells.len();
         let cell = match word {
             CellWord::Null => Cell::Null,
-            CellWord::Value(Literal { value, .. }) => Cell::Value(keep_value(&mut self.text, value, line)?),
+            CellWord::Value(Literal { value, .. }) => Cell::Value(
+                keep_value(&mut self.text, value, line)?,
+            ),
             CellWord::Group { start, count } => Cell::Group { start, count },
             CellWord::List => Cell::ListOrMap,
         };

@@ -40,7 +40,9 @@ pub impl fmt::Display for Tally as TallyDisplay {
             refused,
             not_understood,
         } = *self;
-        let commands = granted.saturating_add(refused).saturating_add(not_understood);
+        let commands = granted
+            .saturating_add(refused)
+            .saturating_add(not_understood);
         write!(
             f,
             "{commands} commands: {granted} granted, {refused} refused, {not_understood} not understood"

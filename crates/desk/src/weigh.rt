@@ -21,8 +21,14 @@ pub fn refuse(rt: &LibcRuntime, refused: Refused) -> io::Result<Outcome> {
 }
 
 pub fn equal(rt: &LibcRuntime, a: Literal, b: Literal, line: &[u8]) -> io::Result<Outcome> {
-    let first = Shown { literal: a, text: line };
-    let second = Shown { literal: b, text: line };
+    let first = Shown {
+        literal: a,
+        text: line,
+    };
+    let second = Shown {
+        literal: b,
+        text: line,
+    };
     match checked::equal(a, b, line) {
         Ok(true) => println!(rt, "   {first} equals {second}")?,
         Ok(false) => println!(rt, "   {first} does not equal {second}")?,
@@ -32,8 +38,14 @@ pub fn equal(rt: &LibcRuntime, a: Literal, b: Literal, line: &[u8]) -> io::Resul
 }
 
 pub fn compare(rt: &LibcRuntime, a: Literal, b: Literal, line: &[u8]) -> io::Result<Outcome> {
-    let first = Shown { literal: a, text: line };
-    let second = Shown { literal: b, text: line };
+    let first = Shown {
+        literal: a,
+        text: line,
+    };
+    let second = Shown {
+        literal: b,
+        text: line,
+    };
     let stands = match checked::compare(a, b, line) {
         Ok(Some(Ordering::Less)) => "comes before",
         Ok(Some(Ordering::Equal)) => "stands level with",
@@ -48,8 +60,14 @@ pub fn compare(rt: &LibcRuntime, a: Literal, b: Literal, line: &[u8]) -> io::Res
 pub fn convert(rt: &LibcRuntime, literal: Literal, to: Kind, line: &[u8]) -> io::Result<Outcome> {
     match convert_alone(literal, to, line) {
         Ok(converted) => {
-            let before = Shown { literal, text: line };
-            let after = Shown { literal: converted, text: line };
+            let before = Shown {
+                literal,
+                text: line,
+            };
+            let after = Shown {
+                literal: converted,
+                text: line,
+            };
             let column = KindName(to);
             println!(rt, "   {before} in a column of {column} is {after}")?;
             Ok(Outcome::Granted)

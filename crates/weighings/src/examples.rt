@@ -4,15 +4,14 @@ ghost use Rattle.weighings.specs.Weighings.{Weighings as Table};
 // Every example of the table follows from the definitions that the calls' contracts cite.
 pub fn weighings_stand()
     ensures follow_from_the_rules { λ _. ⌜ Table ⌝ }
-{
-}
+{}
 
 #[cfg(test)]
 mod tests {
     use comparison::data::partial_cmp;
     use comparison::data::same;
-    use conversion::convert::convert;
     use conversion::convert::Misfit;
+    use conversion::convert::convert;
     use std::cmp::Ordering;
     use std::test::*;
     use values::kinds::Kind;
@@ -45,15 +44,24 @@ mod tests {
     fn longs_narrow_to_ints() -> Result<(), Fail> {
         check(matches!(
             convert(long(Kind::Long, 2147483647), Kind::Int),
-            Ok(Literal { kind: Kind::Int, value: Value::Int(2147483647) })
+            Ok(Literal {
+                kind: Kind::Int,
+                value: Value::Int(2147483647)
+            })
         ))?;
         check(matches!(
             convert(long(Kind::Long, 2147483648), Kind::Int),
-            Ok(Literal { kind: Kind::Int, value: Value::AboveMax })
+            Ok(Literal {
+                kind: Kind::Int,
+                value: Value::AboveMax
+            })
         ))?;
         check(matches!(
             convert(long(Kind::Long, -2147483649), Kind::Int),
-            Ok(Literal { kind: Kind::Int, value: Value::BelowMin })
+            Ok(Literal {
+                kind: Kind::Int,
+                value: Value::BelowMin
+            })
         ))
     }
 
@@ -61,11 +69,17 @@ mod tests {
     fn nanoseconds_round_down() -> Result<(), Fail> {
         check(matches!(
             convert(long(Kind::TimestampNs, 1999), Kind::Timestamp),
-            Ok(Literal { kind: Kind::Timestamp, value: Value::Long(1) })
+            Ok(Literal {
+                kind: Kind::Timestamp,
+                value: Value::Long(1)
+            })
         ))?;
         check(matches!(
             convert(long(Kind::TimestampNs, -1), Kind::Timestamp),
-            Ok(Literal { kind: Kind::Timestamp, value: Value::Long(-1) })
+            Ok(Literal {
+                kind: Kind::Timestamp,
+                value: Value::Long(-1)
+            })
         ))
     }
 
