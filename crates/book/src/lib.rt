@@ -1,4 +1,6 @@
 //! The book of filters: laying, joining, negating and rewriting them in lent tables.
+#![tactic(auto)]
+
 pub mod book;
 mod calls;
 mod edits;

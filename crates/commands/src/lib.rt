@@ -1,4 +1,6 @@
 //! The commands of the office console, as they are typed.
+#![tactic(auto)]
+
 pub mod command;
 
 pub use lines::parse;

@@ -1,4 +1,6 @@
 //! The office's console: commands, one a line, from the file named as its argument or from standard input.
+#![tactic(auto)]
+
 mod columns;
 mod obey;
 mod row;

@@ -1,7 +1,7 @@
 -- totalOrder is the order of the bit patterns read as signs and magnitudes, so it has the laws of the order of numbers.
 use Rattle.std.proofs.Common.{◌≡◌, ℕ, zero, suc, ◌+◌, ◌-◌, ◌*◌, ◌/◌, ◌%◌, ◌^◌, ◌<◌, ◌≤◌, Bool, true, false, cond, not, ◌&&◌, ◌||◌, T, eqb, ltb, leb, ◌⊎◌, ℤ, pos, Ordering, Less, Equal, Greater, sym, refl, ap, ◌∙◌, subst, inl, inr, true≢false, le_trans, le_of_eq, lt_of_le_of_lt, add_assoc, mul-le-mul_right, mod-eq_of_lt, suc-mul, le_antisymm, eq-or-lt_of_le, mul-pos, le-div_iff_mul-le, zero-add, zero-mul, mul_right_comm, arith, lit<, pow_pos, pow-add}
 use lib.Pow.{shr_mono}
-use lib.Ieee.{Float, Format, binary32, binary64, nan, inf, fin, lt, eq, below, Level as alike, is_nan, fits, to_bits, of_bits, top, hid, ones, prec, low, up, down, size}
+use lib.Ieee.{Float, Format, binary32, binary64, nan, inf, fin, lt, eq, below, level as alike, is_nan, fits, to_bits, of_bits, top, hid, ones, prec, low, up, down, size}
 use lib.Ieee.Digits.{size-lt, size-le, size_reaches}
 use lib.Ieee.Fits.{kept-lt, up_pos, down_pos, two}
 use lib.Ieee.Nearest.{div_mono}

@@ -40,8 +40,8 @@ fn by_sign(a_negative: bool, b_negative: bool) -> Ordering
 
 // Where `a` stands to `b`, by the tests of the standard's clauses.
 fn place<F: Floating>(a: F, b: F) -> Ordering
-    ensures is_total_order { result ≡ placed (datum a) (datum b) }
-    ensures both_are_of_the_format { T (fits format (datum a)) × T (fits format (datum b)) }
+    ensures is_total_order { result ≡ placed (F.datum a) (F.datum b) }
+    ensures both_are_of_the_format { T (fits F.format (F.datum a)) × T (fits F.format (F.datum b)) }
 {
     match (a.is_not_a_number(), b.is_not_a_number()) {
         (true, true) => Ordering::Equal,
@@ -61,9 +61,9 @@ fn place<F: Floating>(a: F, b: F) -> Ordering
 
 // Where `a` stands to `b`.
 pub fn total_cmp<F: Floating>(a: F, b: F) -> Ordering
-    ensures is_total_order { result ≡ placed (datum a) (datum b) }
-    ensures goes_by_bit_patterns { result ≡ rank_order (rank format (datum a)) (rank format (datum b)) }
-    ensures obeys_the_laws { Lawful format }
+    ensures is_total_order { result ≡ placed (F.datum a) (F.datum b) }
+    ensures goes_by_bit_patterns { result ≡ rank_order (rank F.format (F.datum a)) (rank F.format (F.datum b)) }
+    ensures obeys_the_laws { Lawful F.format }
 {
     place(a, b)
 }
@@ -79,9 +79,9 @@ fn is_level(standing: Ordering) -> bool
 
 // Whether totalOrder puts neither first.
 pub fn same<F: Floating>(a: F, b: F) -> bool
-    ensures puts_neither_first { Decides result (placed (datum a) (datum b) ≡ Equal) }
-    ensures is_of_one_datum { Decides result (datum a ≡ datum b) }
-    ensures compares_bit_patterns { result ≡ (rank format (datum a) == rank format (datum b)) }
+    ensures puts_neither_first { Decides result (placed (F.datum a) (F.datum b) ≡ Equal) }
+    ensures is_of_one_datum { Decides result (F.datum a ≡ F.datum b) }
+    ensures compares_bit_patterns { result ≡ (rank F.format (F.datum a) == rank F.format (F.datum b)) }
 {
     is_level(place(a, b))
 }

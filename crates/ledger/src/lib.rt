@@ -1,4 +1,6 @@
 //! The ledger on paper beside the book: what every run of calls leaves, whoever makes them.
+#![tactic(auto)]
+
 ghost use Rattle.std.specs.Prelude.{◌≡◌};
 ghost use Rattle.nodes.specs.Soundness.{stands as stands_in};
 ghost use Rattle.book.specs.Ways.{tables, setting};

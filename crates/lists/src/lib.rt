@@ -1,4 +1,6 @@
 //! The keep-first list: of elements that are equal the first is kept, in a table that the caller lends.
+#![tactic(auto)]
+
 pub mod list;
 pub mod numbers;
 mod offers;

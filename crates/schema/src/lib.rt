@@ -1,4 +1,6 @@
 //! Schemas: tables of fields, their check, lookups by full name, and accessors.
+#![tactic(auto)]
+
 pub mod accessor;
 pub mod check;
 pub mod fields;

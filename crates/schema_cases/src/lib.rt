@@ -1,4 +1,5 @@
 //! Schemas run on examples: each rule broken, the limits, the lookups and the accessors.
+#![tactic(auto)]
 
 #[cfg(test)]
 mod tests {

@@ -9,15 +9,15 @@ returns g c =
     let f = g.F.Floating.format in
     let x = g.F.Floating.datum c.args.a in
     let y = g.F.Floating.datum c.args.b in
-    let fit = c.place.ensures.both-are-of-the-format in
+    let fit = c.place.ensures.both_are_of_the_format in
     let p = fit.0 in
     let q = fit.1 in
-    let standing = c.place.ensures.is-total-order in
-    let test = c.is-level.ensures.tells-equal in
-    let level-of = λ (h : c.is-level.result ≡ true). sym standing ∙ test.0 h in
+    let standing = c.place.ensures.is_total_order in
+    let test = c.is_level.ensures.tells_equal in
+    let level-of = λ (h : c.is_level.result ≡ true). sym standing ∙ test.0 h in
     let test_of = λ (h : placed x y ≡ Equal). test.1 (standing ∙ h) in
     record {
-      puts-neither-first = (level-of, test_of);
-      is-of-one-datum = (λ h. level_is_one f x y p q (level-of h), λ e. test_of (level_self f x y p q (ap (rank f) e)));
-      compares-bit-patterns = decided _ (rank f x) (rank f y) (λ h. ap (rank f) (level_is_one f x y p q (level-of h))) (λ e. test_of (level_self f x y p q e));
+      puts_neither_first = (level-of, test_of);
+      is_of_one_datum = (λ h. level_is_one f x y p q (level-of h), λ e. test_of (level_self f x y p q (ap (rank f) e)));
+      compares_bit_patterns = decided _ (rank f x) (rank f y) (λ h. ap (rank f) (level_is_one f x y p q (level-of h))) (λ e. test_of (level_self f x y p q e));
     }

@@ -4,9 +4,9 @@ use Rattle.floats.proofs.order.total_cmp.Goals as goal
 
 pub returns : goal.returns
 returns g c =
-    let fit = c.place.ensures.both-are-of-the-format in
+    let fit = c.place.ensures.both_are_of_the_format in
     record {
-      is-total-order = c.place.ensures.is-total-order;
-      goes-by-bit-patterns = c.place.ensures.is-total-order ∙ placed_by_rank g.F.Floating.format _ _ fit.0 fit.1;
-      obeys-the-laws = lawful g.F.Floating.format;
+      is_total_order = c.place.ensures.is_total_order;
+      goes_by_bit_patterns = c.place.ensures.is_total_order ∙ placed_by_rank g.F.Floating.format _ _ fit.0 fit.1;
+      obeys_the_laws = lawful g.F.Floating.format;
     }
