@@ -5,11 +5,11 @@ use Rattle.values.specs.Kept.{kept_in}
 use Rattle.values.proofs.Spans.{same_length, then_length}
 use Rattle.values.proofs.literals.Literal.is_well_kept.Goals as goal
 
-pub returns-then-is-kept-in : goal.returns-then-is-kept-in
-returns-then-is-kept-in c =
+pub returns-then-is_kept_in : goal.returns-then-is_kept_in
+returns-then-is_kept_in c =
     let l = c.args.self in
-    let joined = λ (t : List ℕ). then_length l _ t _ c.storage.ensures.is-the-kinds (c.if-is-kept-in.ensures.asks-the-case t) c.length_fits.ensures.asks-text-alone in
+    let joined = λ (t : List ℕ). then_length l _ t _ c.storage.ensures.is_the_kinds (c.if-is_kept_in.ensures.asks_the_case t) c.length_fits.ensures.asks_text_alone in
     record {
-      is-kept-as-the-kind-says = joined [];
-      judges-the-content = λ t h. joined t ∙ ap (λ (b : Bool). kept_in (storage_of l.kind) (content_of t l.value) && b) (same_length l.kind l.value t h);
+      is_kept_as_the_kind_says = joined [];
+      judges_the_content = λ t h. joined t ∙ ap (λ (b : Bool). kept_in (storage_of l.kind) (content_of t l.value) && b) (same_length l.kind l.value t h);
     }
