@@ -6,7 +6,7 @@ pub returns : goal.returns
 unfolding to_bits
 returns c =
     record {
-      follow-from-the-rules = record {
+      follow_from_the_rules = record {
         stays = refl;
         above = refl;
         below = refl;
