@@ -41,7 +41,7 @@ at_groupless cells a ps w = at_meeting cells a ps w.at w.place w.met ∙ followi
 at-unsound : (cells : List Cell) (a : Spot) (ps : List ℕ) → Unsound cells a ps → from_spot cells a ps ≡ Err R.OutsideRow
 at-unsound cells a ps w =
     at_meeting cells a ps w.at w.place w.met
-    ∙ following.outside-group cells w.at.cell w.at.after w.start w.count w.place w.met.later w.held
+    ∙ following.outside_group cells w.at.cell w.at.after w.start w.count w.place w.met.later w.held
     (λ b e. w.unsound (record { held = w.held; begins = b; ends = e }))
 
 -- how following the places ends: there is no fifth way

@@ -94,7 +94,7 @@ impl<'a> CellRow<'a> {
 impl<'a> Row for CellRow<'a> {
     ghost words = { λ s. s.text.now };
 
-    ghost reached = { λ s places kind. said s.text.now (looked-up s.cells.now s.top s.text.now places kind) };
+    ghost reached = { λ s places kind. said s.text.now (looked_up s.cells.now s.top s.text.now places kind) };
 
     fn text(&self) -> &[u8] {
         self.text

@@ -3,13 +3,13 @@ use Rattle.std.proofs.lemmas.List.{take_rest}
 use Rattle.rows.proofs.Following.{at_end, into_group}
 use Rattle.rows.proofs.cell_row.+follow.Goals as goal
 
-pub returns-in-default : goal.returns-in-default
-returns-in-default t c = record { is-followed = at_end c.args.cells.now c.args.cell c.args.after c.args.places.now (omega (arith, ltb-true)) }
+pub returns-in_default : goal.returns-in_default
+returns-in_default t c = record { is_followed = at_end c.args.cells.now c.args.cell c.args.after c.args.places.now (omega (arith, ltb-true)) }
 
 pub returns-else-place-count : goal.returns-else-place-count
 returns-else-place-count t c =
     record {
-      is-followed =
-          simp take_rest at c.follow.ensures.is-followed
+      is_followed =
+          simp take_rest at c.follow.ensures.is_followed
           ∙ into_group c.args.cells.now c.args.cell c.args.after c.in-Group.start c.in-Group.count c.args.places.now c.in-Group.is c.if-start-after.false (omega arith) (omega (arith, ltb-false)) c.if-place-count.false;
     }

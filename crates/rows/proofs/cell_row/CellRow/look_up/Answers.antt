@@ -14,15 +14,15 @@ use Rattle.rows.proofs.cell_row.CellRow.look_up.Goals as goal
 joined : (cells first : List Cell) (top : ℕ) (t places : List ℕ) (k : Kind) (f : Result Cell Reason) (r : Result (Option Literal) Reason) → first ≡ row_cells cells → f ≡ followed first (C.Group 0 top) 0 places → r ≡ read_if t k f → r ≡ looked_up cells top t places k
 joined cells first top t places k f r d e h = h ∙ ap (read_if t k) (e ∙ ap (λ (xs : List Cell). followed xs (C.Group 0 top) 0 places) d)
 
-pub returns-in-err-cell : goal.returns-in-err-cell
-returns-in-err-cell c =
+pub returns-in_err-cell : goal.returns-in_err-cell
+returns-in_err-cell c =
     let s = c.args.self.now in
-    let p = err_from_is_err_and c.from-residual.result c.from-residual.ensures.1 in
-    let e = joined s.cells.now c.row_cells.result.now s.top s.text.now c.args.places.now c.args.kind c.follow.result c.from-residual.result c.row_cells.ensures.are-the-first c.follow.ensures.is-followed (p.1 ∙ (ap Err p.2 ∙ ap (read_if s.text.now c.args.kind) (sym c.in-err-cell.was))) in
-    record { is-looked-up = e; comes-exactly-from-its-cause = caused (row_cells s.cells.now) (row_spot s.top) s.text.now c.args.places.now c.args.kind c.from-residual.result e }
+    let p = err_from_is_err_and c.from_residual.result c.from_residual.ensures.1 in
+    let e = joined s.cells.now c.row_cells.result.now s.top s.text.now c.args.places.now c.args.kind c.follow.result c.from_residual.result c.row_cells.ensures.are_the_first c.follow.ensures.is_followed (p.1 ∙ (ap Err p.2 ∙ ap (read_if s.text.now c.args.kind) (sym c.in_err-cell.was))) in
+    record { is_looked_up = e; comes_exactly_from_its_cause = caused (row_cells s.cells.now) (row_spot s.top) s.text.now c.args.places.now c.args.kind c.from_residual.result e }
 
 pub returns : goal.returns
 returns c =
     let s = c.args.self.now in
-    let e = joined s.cells.now c.row_cells.result.now s.top s.text.now c.args.places.now c.args.kind c.follow.result c.read.result c.row_cells.ensures.are-the-first c.follow.ensures.is-followed (c.read.ensures.is_read ∙ ap (read_if s.text.now c.args.kind) (sym c.in-ok-cell.was)) in
-    record { is-looked-up = e; comes-exactly-from-its-cause = caused (row_cells s.cells.now) (row_spot s.top) s.text.now c.args.places.now c.args.kind c.read.result e }
+    let e = joined s.cells.now c.row_cells.result.now s.top s.text.now c.args.places.now c.args.kind c.follow.result c.read.result c.row_cells.ensures.are_the_first c.follow.ensures.is_followed (c.read.ensures.is_read ∙ ap (read_if s.text.now c.args.kind) (sym c.in_ok-cell.was)) in
+    record { is_looked_up = e; comes_exactly_from_its_cause = caused (row_cells s.cells.now) (row_spot s.top) s.text.now c.args.places.now c.args.kind c.read.result e }

@@ -11,10 +11,10 @@ each (Err e) P h = tt
 
 pub returns : goal.returns
 returns c =
-    let found = c.look-up.ensures.comes-exactly-from-its-cause.found in
+    let found = c.look_up.ensures.comes_exactly_from_its_cause.found in
     record {
-      says-what-is-reached = ap (said c.args.self.now.text.now) c.look-up.ensures.is-looked-up;
-      finds-the-kind-asked = each c.look-up.result _ (λ l e. ((found l).0 e).0);
-      finds-no-extreme = each c.look-up.result _ (λ l e. ((found l).0 e).2);
-      finds-text-inside = each c.look-up.result _ (λ l e. ((found l).0 e).3);
+      says_what_is_reached = ap (said c.args.self.now.text.now) c.look_up.ensures.is_looked_up;
+      finds_the_kind_asked = each c.look_up.result _ (λ l e. ((found l).0 e).0);
+      finds_no_extreme = each c.look_up.result _ (λ l e. ((found l).0 e).2);
+      finds_text_inside = each c.look_up.result _ (λ l e. ((found l).0 e).3);
     }
