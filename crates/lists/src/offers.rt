@@ -7,7 +7,7 @@ use crate::policy::Test;
 
 // Whether `x` passes against one of those held, each the earlier of the two.
 fn passes_any<P: Test>(policy: &P, held: &[P::Item], x: &P::Item) -> bool
-    ensures passes_against_one { result ≡ against (passed policy.now) held.now x.now }
+    ensures passes_against_one { result ≡ against (P.passed policy.now) held.now x.now }
 {
     for y in held {
         if policy.passes(y, x) {
@@ -34,7 +34,7 @@ pub fn offer_to<P: Test>(
     end: usize,
     x: P::Item,
 ) -> Offered
-    ensures keeps_what_passes_against_none { result ≡ offered (passed policy.now) items.old start end x }
+    ensures keeps_what_passes_against_none { result ≡ offered (P.passed policy.now) items.old start end x }
     ensures writes_the_kept_alone { items.new ≡ stored result items.old end x }
 {
     if passes_any(policy, cells(items, start, end), &x) {

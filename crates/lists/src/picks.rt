@@ -31,7 +31,7 @@ impl<'a, 'b, P: Test> Test for Places<'a, 'b, P> {
 
 // Picks the places of those that a new list keeps, or answers nothing where they are more than there is room for.
 fn pick<P: Test>(policy: &P, from: &[P::Item], picks: &mut [usize]) -> Option<usize>
-    ensures picks_the_kept { Picked (passed policy.now) from.now picks.new result }
+    ensures picks_the_kept { Picked (P.passed policy.now) from.now picks.new result }
 {
     let places = Places { policy, from };
     let mut end = 0;
@@ -63,8 +63,8 @@ pub fn lay<P: Test>(
     items: &mut [P::Item],
     start: usize,
 ) -> Option<usize>
-    ensures answers_the_end { result ≡ laid_end (kept (passed policy.now) from.now) start (min (length items.old) 1024) }
-    ensures lays_all_or_nothing { items.new ≡ laid (kept (passed policy.now) from.now) items.old start (min (length items.old) 1024) }
+    ensures answers_the_end { result ≡ laid_end (kept (P.passed policy.now) from.now) start (min (length items.old) 1024) }
+    ensures lays_all_or_nothing { items.new ≡ laid (kept (P.passed policy.now) from.now) items.old start (min (length items.old) 1024) }
 {
     let room = items.len().min(LIMIT).checked_sub(start)?;
     let mut picks = [0usize; LIMIT];
