@@ -16,7 +16,7 @@ pub struct FullNames<'a> {
 impl<'a> Test for FullNames<'a> {
     type Item = usize;
 
-    ghost passed = { λ s i j. bytes_eq (full-name s.schema.fields.now s.schema.text.now i) (full-name s.schema.fields.now s.schema.text.now j) };
+    ghost passed = { λ s i j. bytes_eq (full_name s.schema.fields.now s.schema.text.now i) (full_name s.schema.fields.now s.schema.text.now j) };
 
     fn passes(&self, earlier: &usize, later: &usize) -> bool {
         let fields = self.schema.fields;
@@ -32,11 +32,11 @@ impl<'a> Test for FullNames<'a> {
 }
 
 impl<'a> Reflexive for FullNames<'a> {
-    ghost reflexive = { λ s x. bytes-reflexive (full-name s.schema.fields.now s.schema.text.now x) };
+    ghost reflexive = { λ s x. bytes_reflexive (full_name s.schema.fields.now s.schema.text.now x) };
 }
 
 impl<'a> Equality for FullNames<'a> {
-    ghost symmetric = { λ s x y. bytes-symmetric (full-name s.schema.fields.now s.schema.text.now x) (full-name s.schema.fields.now s.schema.text.now y) };
+    ghost symmetric = { λ s x y. bytes_symmetric (full_name s.schema.fields.now s.schema.text.now x) (full_name s.schema.fields.now s.schema.text.now y) };
 
-    ghost transitive = { λ s x y z. bytes-transitive (full-name s.schema.fields.now s.schema.text.now x) (full-name s.schema.fields.now s.schema.text.now y) (full-name s.schema.fields.now s.schema.text.now z) };
+    ghost transitive = { λ s x y z. bytes_transitive (full_name s.schema.fields.now s.schema.text.now x) (full_name s.schema.fields.now s.schema.text.now y) (full_name s.schema.fields.now s.schema.text.now z) };
 }

@@ -4,4 +4,4 @@ use Rattle.schema.proofs.lookups.is_named.Goals as goal
 
 pub returns : goal.returns
 returns c =
-    record { compares-the-full-name = named_as c.args.case _ _ _ c.args.name.now c.is-same-name.result c.is-same-name.ensures.compares-whole-names c.name-of.ensures.is-the-full-name refl }
+    record { compares_the_full_name = named_as c.args.case _ _ _ c.args.name.now c.is_same_name.result c.is_same_name.ensures.compares_whole_names c.name_of.ensures.is_the_full_name refl }

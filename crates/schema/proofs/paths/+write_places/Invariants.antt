@@ -1,4 +1,4 @@
 use Rattle.schema.proofs.paths.+write_places.Given as goal
 
-abbrev pub decreases-write-places : goal.decreases-write-places
-decreases-write-places l = l.field
+abbrev pub decreases-write_places : goal.decreases-write_places
+decreases-write_places l = l.field
