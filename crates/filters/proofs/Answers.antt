@@ -120,12 +120,12 @@ module _ {A F X : Type 0} (opposite : X → X) (m : Meaning A F X) (e : EvenHand
   negated_gives (condition c) x h = e.opposite_gives c x h
   negated_gives (And l r) z h =
       let p = And_parts l r z h in
-      moved (negated opposite (And l r)) (e.join (e.turn p.left) (e.turn p.right)) (e.turn z) (cc (e.turn_meet p.left p.right p.left-valid p.right_valid, p.is))
-      (Or_gives (negated opposite l) (negated opposite r) (e.turn p.left) (e.turn p.right) (e.turn_valid p.left p.left-valid) (e.turn_valid p.right p.right_valid) (negated_gives l p.left p.left-gives) (negated_gives r p.right p.right-gives))
+      moved (negated opposite (And l r)) (e.join (e.turn p.left) (e.turn p.right)) (e.turn z) (cc (e.turn_meet p.left p.right p.left_valid p.right_valid, p.is))
+      (Or_gives (negated opposite l) (negated opposite r) (e.turn p.left) (e.turn p.right) (e.turn_valid p.left p.left_valid) (e.turn_valid p.right p.right_valid) (negated_gives l p.left p.left_gives) (negated_gives r p.right p.right_gives))
   negated_gives (Or l r) z h =
       let p = Or_parts l r z h in
-      moved (negated opposite (Or l r)) (e.meet (e.turn p.left) (e.turn p.right)) (e.turn z) (cc (e.turn_join p.left p.right p.left-valid p.right_valid, p.is))
-      (And_gives (negated opposite l) (negated opposite r) (e.turn p.left) (e.turn p.right) (e.turn_valid p.left p.left-valid) (e.turn_valid p.right p.right_valid) (negated_gives l p.left p.left-gives) (negated_gives r p.right p.right-gives))
+      moved (negated opposite (Or l r)) (e.meet (e.turn p.left) (e.turn p.right)) (e.turn z) (cc (e.turn_join p.left p.right p.left_valid p.right_valid, p.is))
+      (And_gives (negated opposite l) (negated opposite r) (e.turn p.left) (e.turn p.right) (e.turn_valid p.left p.left_valid) (e.turn_valid p.right p.right_valid) (negated_gives l p.left p.left_gives) (negated_gives r p.right p.right_gives))
   negated_gives (Not t) z h =
       let p = Not_parts t z h in
       moved t p.0 (e.turn z) (cc (e.turn_turn p.0 p.1, p.3)) p.2
@@ -144,11 +144,11 @@ module _ {A F X : Type 0} (opposite : X → X) (m : Meaning A F X) (e : EvenHand
   rewritten_gives folds (And l r) z h =
       let p = And_parts l r z h in
       moved (rewritten folds opposite (And l r)) (e.meet p.left p.right) z (sym p.is)
-      (and_if_gives folds (rewritten folds opposite l) (rewritten folds opposite r) p.left p.right p.left-valid p.right_valid (rewritten_gives folds l p.left p.left-gives) (rewritten_gives folds r p.right p.right-gives))
+      (and_if_gives folds (rewritten folds opposite l) (rewritten folds opposite r) p.left p.right p.left_valid p.right_valid (rewritten_gives folds l p.left p.left_gives) (rewritten_gives folds r p.right p.right_gives))
   rewritten_gives folds (Or l r) z h =
       let p = Or_parts l r z h in
       moved (rewritten folds opposite (Or l r)) (e.join p.left p.right) z (sym p.is)
-      (or_if_gives folds (rewritten folds opposite l) (rewritten folds opposite r) p.left p.right p.left-valid p.right_valid (rewritten_gives folds l p.left p.left-gives) (rewritten_gives folds r p.right p.right-gives))
+      (or_if_gives folds (rewritten folds opposite l) (rewritten folds opposite r) p.left p.right p.left_valid p.right_valid (rewritten_gives folds l p.left p.left_gives) (rewritten_gives folds r p.right p.right_gives))
   rewritten_gives folds (Not t) z h =
       let p = Not_parts t z h in
       moved (rewritten folds opposite (Not t)) (e.turn p.0) z (sym p.3) (negated_gives (rewritten folds opposite t) p.0 (rewritten_gives folds t p.0 p.2))

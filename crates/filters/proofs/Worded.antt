@@ -14,8 +14,8 @@ module _ {A F C : Type 0} (opposite : C → C) (m : Meaning A F C) (e : EvenHand
   kept : Keeps Alike (book opposite) paper
   kept = record {
     of_lay = λ t x h. h;
-    of_and = λ t t' w w' g g' z h. let p = And_parts opposite m e w w' z h in and_gives opposite m e t t' p.left p.right p.left-valid p.right_valid (g p.left p.left-gives) (g' p.right p.right-gives) ∙ ap Ok (sym p.is);
-    of_or = λ t t' w w' g g' z h. let p = Or_parts opposite m e w w' z h in or_gives opposite m e t t' p.left p.right p.left-valid p.right_valid (g p.left p.left-gives) (g' p.right p.right-gives) ∙ ap Ok (sym p.is);
+    of_and = λ t t' w w' g g' z h. let p = And_parts opposite m e w w' z h in and_gives opposite m e t t' p.left p.right p.left_valid p.right_valid (g p.left p.left_gives) (g' p.right p.right_gives) ∙ ap Ok (sym p.is);
+    of_or = λ t t' w w' g g' z h. let p = Or_parts opposite m e w w' z h in or_gives opposite m e t t' p.left p.right p.left_valid p.right_valid (g p.left p.left_gives) (g' p.right p.right_gives) ∙ ap Ok (sym p.is);
     of_not = λ t w g z h. let p = Not_parts opposite m e w z h in Not_gives opposite m e t p.0 p.1 (g p.0 p.2) ∙ ap Ok (sym p.3);
     of_negate = λ t w g z h. let p = Not_parts opposite m e w z h in negated_gives opposite m e t p.0 (g p.0 p.2) ∙ ap Ok (sym p.3);
     of_rewrite = λ t w g z h. rewritten_gives opposite m e true t z (g z h);
