@@ -1,7 +1,7 @@
 -- Texts that std reads as floats.
 use Rattle.std.proofs.Common.{◌≡◌, ℕ, ◌<◌, ◌≤◌, Bool, true, false, ◌&&◌, ◌||◌, eqb, ltb, List, [], ◌∷◌, None, Ok, Err, IsAscii, Option, Result, sym, refl, ap, ◌∙◌, inl, inr, arith}
 use lib.Ieee.{Float, Format, binary32, binary64}
-use Rattle.std.specs.Float.Parse.{float_scan_step, completes_number, lowercases_to, without_sign, is_infinity_text, is_nan_text, is_float_text, ParsesFloat}
+use Rattle.std.specs.Float.Parse.{float_scan_step, completes_number, lowercases_to, without_sign, is_infinity_text, is_nan_text, is_float_text, ParsesFloat, IsParseFloatResult}
 use Rattle.std.specs.Result.{result_ok}
 use Rattle.std.specs.Char.{to_ascii_lowercase}
 use Rattle.std.proofs.lemmas.Str.Ascii.{IsAscii-nil, IsAscii-cons}
@@ -75,13 +75,13 @@ float_read : {E : Type 0} (f : Format) (k : ℕ) (bs : List ℕ) (r : Result Flo
 float_read f k bs (Ok x) h = (sym h.0, λ n l. let e = h.1 n l in cc)
 float_read f k bs (Err e) h = λ x w. false≢true (h.0 ∙ w.0)
 
-pub float_of : {E : Type 0} (f : Format) (k : ℕ) (bs : List ℕ) (o : Option Float) → Parsed {E = E} (λ t r. ParsesFloat f k t r) bs o → Reads (FloatText f k) bs o
+pub float_of : {E : Type 0} (f : Format) (k : ℕ) (bs : List ℕ) (o : Option Float) → Parsed {E = E} (λ t r. ParsesFloat f k t r × IsParseFloatResult f t r) bs o → Reads (FloatText f k) bs o
 float_of f k bs o (inl h) = rw h.1 (λ x w. h.0 (IsUtf8-from_ascii bs (float_ascii bs w.0)))
-float_of f k bs o (inr h) = rw h.1.1 (float_read f k bs h.0 h.1.0)
+float_of f k bs o (inr h) = rw h.1.1 (float_read f k bs h.0 h.1.0.0)
 
 -- where std reads none, no content of the storage is written
-pub no_single : {E : Type 0} (s : Storage) (t bs : List ℕ) → s ≡ S.Float → t ≡ bs → Parsed {E = E} (λ u r. ParsesFloat binary32 32 u r) t None → (c : Content) → Wording s c bs → ⊥
+pub no_single : {E : Type 0} (s : Storage) (t bs : List ℕ) → s ≡ S.Float → t ≡ bs → Parsed {E = E} (λ u r. ParsesFloat binary32 32 u r × IsParseFloatResult binary32 u r) t None → (c : Content) → Wording s c bs → ⊥
 no_single s t bs e p h c w = let v : Wording S.Float c bs = rw e at w in float_of binary32 32 bs None (rw p at h) v.0 v.1.1
 
-pub no_double : {E : Type 0} (s : Storage) (t bs : List ℕ) → s ≡ S.Double → t ≡ bs → Parsed {E = E} (λ u r. ParsesFloat binary64 64 u r) t None → (c : Content) → Wording s c bs → ⊥
+pub no_double : {E : Type 0} (s : Storage) (t bs : List ℕ) → s ≡ S.Double → t ≡ bs → Parsed {E = E} (λ u r. ParsesFloat binary64 64 u r × IsParseFloatResult binary64 u r) t None → (c : Content) → Wording s c bs → ⊥
 no_double s t bs e p h c w = let v : Wording S.Double c bs = rw e at w in float_of binary64 64 bs None (rw p at h) v.0 v.1.1

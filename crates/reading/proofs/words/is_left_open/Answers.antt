@@ -7,9 +7,9 @@ pub loop-byte-preserved : goal.loop-byte-preserved
 loop-byte-preserved c =
     let text = c.args.text.now in
     let at = c.loop-byte.byte-index in
-    ap (λ (q : Bool). left_open q (drop (at + 1) text)) c.turn-quoted.ensures.opens-or-closes
+    ap (λ (q : Bool). left_open q (drop (at + 1) text)) c.turn-quoted.ensures.opens_or_closes
     ∙ sym (at_drop_more (left_open c.loop-byte.quoted) text at 0 (omega arith))
     ∙ c.loop-byte.invariant
 
 pub returns : goal.returns
-returns c = record { counts-by-twos = sym (at_drop_all (left_open c.loop-byte.quoted) c.args.text.now c.loop-byte.byte-index (omega arith)) ∙ c.loop-byte.invariant }
+returns c = record { counts_by_twos = sym (at_drop_all (left_open c.loop-byte.quoted) c.args.text.now c.loop-byte.byte-index (omega arith)) ∙ c.loop-byte.invariant }

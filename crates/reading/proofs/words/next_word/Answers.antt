@@ -6,14 +6,14 @@ use Rattle.reading.proofs.words.next_word.Goals as goal
 
 pub returns-then-start-line : goal.returns-then-start-line
 returns-then-start-line c =
-    record { is-the-next = sym c.skip-blanks-start.ensures.passes-no-word ∙ at_drop_all (words_on between c.skip-blanks-start.result) c.args.line.now c.skip-blanks-start.result (omega arith) }
+    record { is_the_next = sym c.skip_blanks-start.ensures.passes_no_word ∙ at_drop_all (words_on between c.skip_blanks-start.result) c.args.line.now c.skip_blanks-start.result (omega arith) }
 
 pub returns : goal.returns
 returns c =
     record {
-      is-the-next =
-          found c.args.line.now c.args.from c.skip-blanks-start.result _ (omega arith)
-          (c.skip-blanks-start.ensures.ends-at-no-blank (omega arith))
-          c.skip-blanks-start.ensures.passes-no-word
-          (omega (arith, c.word-end-end.ensures.takes-the-word));
+      is_the_next =
+          found c.args.line.now c.args.from c.skip_blanks-start.result _ (omega arith)
+          (c.skip_blanks-start.ensures.ends_at_no_blank (omega arith))
+          c.skip_blanks-start.ensures.passes_no_word
+          (omega (arith, c.word_end-end.ensures.takes_the_word));
     }
