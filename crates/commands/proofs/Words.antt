@@ -6,7 +6,6 @@ use Rattle.values.specs.Contents.{bytes_at, datum_of}
 use Rattle.reading.specs.Words.{words_from}
 use Rattle.reading.specs.Placed.{LiteralRead}
 use Rattle.commands.specs.declared.command.Column.{Column}
-use Rattle.commands.specs.declared.command.Column.TheVariants as T
 use Rattle.commands.specs.declared.command.Presence.{Presence}
 use Rattle.commands.specs.declared.command.Malformed.{Malformed}
 use Rattle.commands.specs.Spelling.{Item, literal, column, word, presence_text, ColumnWord, Spelt}

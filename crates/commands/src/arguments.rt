@@ -27,7 +27,7 @@ pub trait Argument: Sized {
 }
 
 impl Argument for Literal {
-    ghost part = { a-literal };
+    ghost part = { a_literal };
 
     ghost item = { literal };
 
@@ -41,7 +41,7 @@ impl Argument for Literal {
 }
 
 impl Argument for Kind {
-    ghost part = { a-kind };
+    ghost part = { a_kind };
 
     ghost item = { kind };
 
@@ -55,7 +55,7 @@ impl Argument for Kind {
 }
 
 impl Argument for u32 {
-    ghost part = { a-number 32 };
+    ghost part = { a_number 32 };
 
     ghost item = { number 32 };
 
@@ -69,7 +69,7 @@ impl Argument for u32 {
 }
 
 impl Argument for usize {
-    ghost part = { a-number 64 };
+    ghost part = { a_number 64 };
 
     ghost item = { number 64 };
 
@@ -84,7 +84,7 @@ impl Argument for usize {
 
 // A name, by its place.
 impl Argument for Span {
-    ghost part = { a-name };
+    ghost part = { a_name };
 
     ghost item = { name };
 
@@ -98,7 +98,7 @@ impl Argument for Span {
 }
 
 impl Argument for Column {
-    ghost part = { a-column };
+    ghost part = { a_column };
 
     ghost item = { column };
 
@@ -122,9 +122,9 @@ impl Argument for Column {
 }
 
 impl Argument for Presence {
-    ghost part = { a-presence };
+    ghost part = { a_presence };
 
-    ghost item = { λ p. word (presence-text p) };
+    ghost item = { λ p. word (presence_text p) };
 
     fn fault() -> Fault {
         Fault::NotAPresence

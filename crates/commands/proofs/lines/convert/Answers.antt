@@ -5,32 +5,32 @@ use Rattle.commands.specs.Grammar.{the, a_literal, a_kind}
 use Rattle.commands.proofs.Words.{later}
 use Rattle.commands.proofs.lines.convert.Goals as goal
 
-pub returns-in-err-a : goal.returns-in-err-a
-returns-in-err-a c =
-    let p = err_from_is_err_and c.from-residual.result c.from-residual.ensures.1 in
-    record { takes-literal-and-kind = λ place. rw (p.1, p.2) (c.in-err-a.ensures.takes-the-argument (the (codes "to") ∷ a_kind ∷ [])) }
+pub returns-in_err-a : goal.returns-in_err-a
+returns-in_err-a c =
+    let p = err_from_is_err_and c.from_residual.result c.from_residual.ensures.1 in
+    record { takes_literal_and_kind = λ place. rw (p.1, p.2) (c.in_err-a.ensures.takes_the_argument (the (codes "to") ∷ a_kind ∷ [])) }
 
-pub returns-in-err-next : goal.returns-in-err-next
-returns-in-err-next c =
+pub returns-in_err-next : goal.returns-in_err-next
+returns-in_err-next c =
     let line = c.args.line.now in
-    let p = err_from_is_err_and c.from-residual-in-err-next.result c.from-residual-in-err-next.ensures.1 in
+    let p = err_from_is_err_and c.from_residual-in_err-next.result c.from_residual-in_err-next.ensures.1 in
     record {
-      takes-literal-and-kind = λ place.
+      takes_literal_and_kind = λ place.
           rw (p.1, p.2)
-          (later (length line) line c.args.from c.in-ok-a.behind a_literal (literal c.in-ok-a.a) (the (codes "to") ∷ a_kind ∷ []) c.in-err-next.field-0.0
-          c.in-ok-a.ensures.takes-the-argument (c.in-err-next.ensures.takes-the-word (a_kind ∷ [])));
+          (later (length line) line c.args.from c.in_ok-a.behind a_literal (literal c.in_ok-a.a) (the (codes "to") ∷ a_kind ∷ []) c.in_err-next.field-0.0
+          c.in_ok-a.ensures.takes_the_argument (c.in_err-next.ensures.takes_the_word (a_kind ∷ [])));
     }
 
-pub returns-in-err-kind : goal.returns-in-err-kind
-returns-in-err-kind c =
+pub returns-in_err-kind : goal.returns-in_err-kind
+returns-in_err-kind c =
     let line = c.args.line.now in
-    let m = c.in-err-kind.field-0.0 in
-    let p = err_from_is_err_and c.from-residual-in-err-kind.result c.from-residual-in-err-kind.ensures.1 in
+    let m = c.in_err-kind.field-0.0 in
+    let p = err_from_is_err_and c.from_residual-in_err-kind.result c.from_residual-in_err-kind.ensures.1 in
     record {
-      takes-literal-and-kind = λ place.
+      takes_literal_and_kind = λ place.
           rw (p.1, p.2)
-          (later (length line) line c.args.from c.in-ok-a.behind a_literal (literal c.in-ok-a.a) (the (codes "to") ∷ a_kind ∷ []) m
-          c.in-ok-a.ensures.takes-the-argument
-          (later (length line) line c.in-ok-a.behind c.in-ok-next.next (the (codes "to")) (word (codes "to")) (a_kind ∷ []) m
-          c.in-ok-next.ensures.takes-the-word c.in-err-kind.ensures.takes_all));
+          (later (length line) line c.args.from c.in_ok-a.behind a_literal (literal c.in_ok-a.a) (the (codes "to") ∷ a_kind ∷ []) m
+          c.in_ok-a.ensures.takes_the_argument
+          (later (length line) line c.in_ok-a.behind c.in_ok-next.next (the (codes "to")) (word (codes "to")) (a_kind ∷ []) m
+          c.in_ok-next.ensures.takes_the_word c.in_err-kind.ensures.takes_all));
     }

@@ -7,42 +7,42 @@ use Rattle.commands.proofs.Words.{later}
 use Rattle.commands.proofs.Forms.{parent_fault}
 use Rattle.commands.proofs.lines.field.Goals as goal
 
-pub returns-in-err-number : goal.returns-in-err-number
-returns-in-err-number c =
+pub returns-in_err-number : goal.returns-in_err-number
+returns-in_err-number c =
     let line = c.args.line.now in
-    let m = c.in-err-number.field-0.0 in
+    let m = c.in_err-number.field-0.0 in
     let parents : List Part = parent_parts (drop 4 (words_from line c.args.from)) in
-    let p = err_from_is_err_and c.from-residual.result c.from-residual.ensures.1 in
-    record { takes-four-and-the-parent = λ place. rw (p.1, p.2) (c.in-err-number.ensures.takes-the-argument (a_name ∷ a_column ∷ a_presence ∷ parents)) }
+    let p = err_from_is_err_and c.from_residual.result c.from_residual.ensures.1 in
+    record { takes_four_and_the_parent = λ place. rw (p.1, p.2) (c.in_err-number.ensures.takes_the_argument (a_name ∷ a_column ∷ a_presence ∷ parents)) }
 
-pub returns-in-err-name : goal.returns-in-err-name
-returns-in-err-name c =
+pub returns-in_err-name : goal.returns-in_err-name
+returns-in_err-name c =
     let line = c.args.line.now in
-    let m = c.in-err-name.field-0.0 in
+    let m = c.in_err-name.field-0.0 in
     let parents : List Part = parent_parts (drop 4 (words_from line c.args.from)) in
-    let p = err_from_is_err_and c.from-residual-in-err-name.result c.from-residual-in-err-name.ensures.1 in
-    record { takes-four-and-the-parent = λ place. rw (p.1, p.2) (later (length line) line c.args.from c.in-ok-number.at_name (a_number 32) (number 32 c.in-ok-number.number) (a_name ∷ a_column ∷ a_presence ∷ parents) m c.in-ok-number.ensures.takes-the-argument (c.in-err-name.ensures.takes-the-argument (a_column ∷ a_presence ∷ parents))) }
+    let p = err_from_is_err_and c.from_residual-in_err-name.result c.from_residual-in_err-name.ensures.1 in
+    record { takes_four_and_the_parent = λ place. rw (p.1, p.2) (later (length line) line c.args.from c.in_ok-number.at_name (a_number 32) (number 32 c.in_ok-number.number) (a_name ∷ a_column ∷ a_presence ∷ parents) m c.in_ok-number.ensures.takes_the_argument (c.in_err-name.ensures.takes_the_argument (a_column ∷ a_presence ∷ parents))) }
 
-pub returns-in-err-column : goal.returns-in-err-column
-returns-in-err-column c =
+pub returns-in_err-column : goal.returns-in_err-column
+returns-in_err-column c =
     let line = c.args.line.now in
-    let m = c.in-err-column.field-0.0 in
+    let m = c.in_err-column.field-0.0 in
     let parents : List Part = parent_parts (drop 4 (words_from line c.args.from)) in
-    let p = err_from_is_err_and c.from-residual-in-err-column.result c.from-residual-in-err-column.ensures.1 in
-    record { takes-four-and-the-parent = λ place. rw (p.1, p.2) (later (length line) line c.args.from c.in-ok-number.at_name (a_number 32) (number 32 c.in-ok-number.number) (a_name ∷ a_column ∷ a_presence ∷ parents) m c.in-ok-number.ensures.takes-the-argument (later (length line) line c.in-ok-number.at_name c.in-ok-name.at-column (a_name) (name c.in-ok-name.name) (a_column ∷ a_presence ∷ parents) m c.in-ok-name.ensures.takes-the-argument (c.in-err-column.ensures.takes-the-argument (a_presence ∷ parents)))) }
+    let p = err_from_is_err_and c.from_residual-in_err-column.result c.from_residual-in_err-column.ensures.1 in
+    record { takes_four_and_the_parent = λ place. rw (p.1, p.2) (later (length line) line c.args.from c.in_ok-number.at_name (a_number 32) (number 32 c.in_ok-number.number) (a_name ∷ a_column ∷ a_presence ∷ parents) m c.in_ok-number.ensures.takes_the_argument (later (length line) line c.in_ok-number.at_name c.in_ok-name.at_column (a_name) (name c.in_ok-name.name) (a_column ∷ a_presence ∷ parents) m c.in_ok-name.ensures.takes_the_argument (c.in_err-column.ensures.takes_the_argument (a_presence ∷ parents)))) }
 
-pub returns-in-err-presence : goal.returns-in-err-presence
-returns-in-err-presence c =
+pub returns-in_err-presence : goal.returns-in_err-presence
+returns-in_err-presence c =
     let line = c.args.line.now in
-    let m = c.in-err-presence.field-0.0 in
+    let m = c.in_err-presence.field-0.0 in
     let parents : List Part = parent_parts (drop 4 (words_from line c.args.from)) in
-    let p = err_from_is_err_and c.from-residual-in-err-presence.result c.from-residual-in-err-presence.ensures.1 in
-    record { takes-four-and-the-parent = λ place. rw (p.1, p.2) (later (length line) line c.args.from c.in-ok-number.at_name (a_number 32) (number 32 c.in-ok-number.number) (a_name ∷ a_column ∷ a_presence ∷ parents) m c.in-ok-number.ensures.takes-the-argument (later (length line) line c.in-ok-number.at_name c.in-ok-name.at-column (a_name) (name c.in-ok-name.name) (a_column ∷ a_presence ∷ parents) m c.in-ok-name.ensures.takes-the-argument (later (length line) line c.in-ok-name.at-column c.in-ok-column.at-presence (a_column) (column c.in-ok-column.column) (a_presence ∷ parents) m c.in-ok-column.ensures.takes-the-argument (c.in-err-presence.ensures.takes-the-argument parents)))) }
+    let p = err_from_is_err_and c.from_residual-in_err-presence.result c.from_residual-in_err-presence.ensures.1 in
+    record { takes_four_and_the_parent = λ place. rw (p.1, p.2) (later (length line) line c.args.from c.in_ok-number.at_name (a_number 32) (number 32 c.in_ok-number.number) (a_name ∷ a_column ∷ a_presence ∷ parents) m c.in_ok-number.ensures.takes_the_argument (later (length line) line c.in_ok-number.at_name c.in_ok-name.at_column (a_name) (name c.in_ok-name.name) (a_column ∷ a_presence ∷ parents) m c.in_ok-name.ensures.takes_the_argument (later (length line) line c.in_ok-name.at_column c.in_ok-column.at_presence (a_column) (column c.in_ok-column.column) (a_presence ∷ parents) m c.in_ok-column.ensures.takes_the_argument (c.in_err-presence.ensures.takes_the_argument parents)))) }
 
-pub returns-in-err-parent : goal.returns-in-err-parent
-returns-in-err-parent c =
+pub returns-in_err-parent : goal.returns-in_err-parent
+returns-in_err-parent c =
     let line = c.args.line.now in
-    let m = c.in-err-parent.field-0.0 in
+    let m = c.in_err-parent.field-0.0 in
     let parents : List Part = parent_parts (drop 4 (words_from line c.args.from)) in
-    let p = err_from_is_err_and c.from-residual-in-err-parent.result c.from-residual-in-err-parent.ensures.1 in
-    record { takes-four-and-the-parent = λ place. rw (p.1, p.2) (later (length line) line c.args.from c.in-ok-number.at_name (a_number 32) (number 32 c.in-ok-number.number) (a_name ∷ a_column ∷ a_presence ∷ parents) m c.in-ok-number.ensures.takes-the-argument (later (length line) line c.in-ok-number.at_name c.in-ok-name.at-column (a_name) (name c.in-ok-name.name) (a_column ∷ a_presence ∷ parents) m c.in-ok-name.ensures.takes-the-argument (later (length line) line c.in-ok-name.at-column c.in-ok-column.at-presence (a_column) (column c.in-ok-column.column) (a_presence ∷ parents) m c.in-ok-column.ensures.takes-the-argument (later (length line) line c.in-ok-column.at-presence c.in-ok-presence.at-parent (a_presence) (word (presence_text c.in-ok-presence.presence)) parents m c.in-ok-presence.ensures.takes-the-argument (parent_fault (length line) line c.args.from c.in-ok-number.at_name c.in-ok-name.at-column c.in-ok-column.at-presence c.in-ok-presence.at-parent _ _ _ _ m c.in-ok-number.ensures.takes-the-argument.1.0 c.in-ok-name.ensures.takes-the-argument.1.0 c.in-ok-column.ensures.takes-the-argument.1.0 c.in-ok-presence.ensures.takes-the-argument.1.0 c.in-err-parent.ensures.is-all-or-nothing))))) }
+    let p = err_from_is_err_and c.from_residual-in_err-parent.result c.from_residual-in_err-parent.ensures.1 in
+    record { takes_four_and_the_parent = λ place. rw (p.1, p.2) (later (length line) line c.args.from c.in_ok-number.at_name (a_number 32) (number 32 c.in_ok-number.number) (a_name ∷ a_column ∷ a_presence ∷ parents) m c.in_ok-number.ensures.takes_the_argument (later (length line) line c.in_ok-number.at_name c.in_ok-name.at_column (a_name) (name c.in_ok-name.name) (a_column ∷ a_presence ∷ parents) m c.in_ok-name.ensures.takes_the_argument (later (length line) line c.in_ok-name.at_column c.in_ok-column.at_presence (a_column) (column c.in_ok-column.column) (a_presence ∷ parents) m c.in_ok-column.ensures.takes_the_argument (later (length line) line c.in_ok-column.at_presence c.in_ok-presence.at_parent (a_presence) (word (presence_text c.in_ok-presence.presence)) parents m c.in_ok-presence.ensures.takes_the_argument (parent_fault (length line) line c.args.from c.in_ok-number.at_name c.in_ok-name.at_column c.in_ok-column.at_presence c.in_ok-presence.at_parent _ _ _ _ m c.in_ok-number.ensures.takes_the_argument.1.0 c.in_ok-name.ensures.takes_the_argument.1.0 c.in_ok-column.ensures.takes_the_argument.1.0 c.in_ok-presence.ensures.takes_the_argument.1.0 c.in_err-parent.ensures.is_all_or_nothing))))) }
