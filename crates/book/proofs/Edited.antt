@@ -1,8 +1,8 @@
 -- What the edits do to the table, node by node.
-use Rattle.std.proofs.Common.{◌≡◌, ℕ, ◌<◌, Bool, true, false, not, eqb, ltb, List, length, set, sym, refl, ap, ◌∙◌, subst, ap₂, inl, inr, length-set, get_or-set_other, get_or-set_same, ltb-false, ltb-true, eqb-true}
+use Rattle.std.proofs.Common.{◌≡◌, ℕ, ◌<◌, Bool, true, false, eqb, ltb, List, length, set, sym, refl, ap, ◌∙◌, subst, ap₂, inl, inr, length-set, get_or-set_other, get_or-set_same, ltb-false, ltb-true, eqb-true}
 use lib.Seq.{set_out}
 use borrow.Author.Tests.{eqb-false}
-use Rattle.filters.specs.Placed.{both, other, Placed, constant_at, condition_at, and_node_at, or_node_at, not_node_at, root, In, negated_placed}
+use Rattle.filters.specs.Placed.{Placed, constant_at, condition_at, and_node_at, or_node_at, not_node_at, root, In, negated_placed}
 use Rattle.nodes.specs.declared.slots.Mark.{Mark}
 use Rattle.nodes.specs.declared.slots.Mark.TheVariants.{Struck}
 use Rattle.nodes.specs.declared.slots.Node.{Node}

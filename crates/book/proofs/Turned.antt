@@ -4,7 +4,7 @@ use mathlib.Core.Option.{Option as Maybe, some, none}
 use lib.Seq.{set_out}
 use borrow.Author.Tests.{eqb-false}
 use Rattle.filters.specs.Trees.{plain}
-use Rattle.filters.specs.Placed.{Form, always, test, both, other, Placed, constant_at, condition_at, and_node_at, or_node_at, not_node_at, root, tree, In, Apart, Sound, Holds, and_placed_by, or_placed_by, and_placed, or_placed, negated_placed, rewritten_placed}
+use Rattle.filters.specs.Placed.{Form, always, test, Placed, constant_at, condition_at, and_node_at, or_node_at, not_node_at, root, tree, In, Apart, Sound, Holds, and_placed_by, or_placed_by, and_placed, or_placed, negated_placed, rewritten_placed}
 use Rattle.filters.proofs.Placed.{root_in, in_le, frame, rewritten_sound}
 use Rattle.nodes.specs.declared.slots.Mark.{Mark}
 use Rattle.nodes.specs.declared.slots.Mark.TheVariants.{Struck}

@@ -1,5 +1,5 @@
 -- What each call answers and leaves.
-use Rattle.std.specs.Prelude.{ℕ, ◌+◌, Bool, true, false, cond, not, List, [], ◌∷◌, length, set, Some, None, Ok, Err, Option, Result, ◌==◌, nat_le, nat_lt, slice_set}
+use Rattle.std.specs.Prelude.{ℕ, ◌+◌, Bool, true, false, cond, not, List, [], ◌∷◌, length, Some, None, Ok, Err, Option, Result, ◌==◌, nat_le, nat_lt, slice_set}
 use Rattle.values.specs.declared.literals.Literal.{Literal}
 use Rattle.values.specs.declared.refusals.Reason.{Reason}
 use Rattle.values.specs.declared.refusals.Reason.TheVariants as R

@@ -9,7 +9,7 @@ ghost use Rattle.nodes.specs.Tables.{at, slot, filter_at};
 ghost use Rattle.nodes.specs.Filters.{Whole};
 ghost use Rattle.nodes.specs.Soundness.{literal_room};
 ghost use Rattle.book.specs.Equality.{same_literal};
-ghost use Rattle.book.specs.Edits.{marked, negation, rewriting, constant as constant_by_lem};
+ghost use Rattle.book.specs.Edits.{marked, negation, rewriting, constant as constant_by};
 ghost use Rattle.book.specs.Calls.{tables_of, reads, first_not, barred as barred_by, barred_one, barred_two, barred_leaf as barred_leaf_by, full as full_by, written, laying, over, joining as joining_by};
 
 use crate::edits::{Connective, Keep, flip, joining, keeps, rewrite, strike};
@@ -243,7 +243,7 @@ pub fn store(
 }
 
 pub fn constant_node<T: Copy>(value: bool) -> Node<T>
-    ensures is_the_constant { result ≡ constant_by_lem value }
+    ensures is_the_constant { result ≡ constant_by value }
 {
     if value {
         Node::AlwaysTrue

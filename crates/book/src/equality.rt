@@ -14,7 +14,7 @@ pub struct Literals<'a> {
 impl<'a> Test for Literals<'a> {
     type Item = Literal;
 
-    ghost passed = { λ s a b. same-literal s.text.now a b };
+    ghost passed = { λ s a b. same_literal s.text.now a b };
 
     fn passes(&self, earlier: &Literal, later: &Literal) -> bool {
         same(earlier, self.text, later, self.text)
@@ -22,11 +22,11 @@ impl<'a> Test for Literals<'a> {
 }
 
 impl<'a> Reflexive for Literals<'a> {
-    ghost reflexive = { λ s x. literal-reflexive s.text.now x };
+    ghost reflexive = { λ s x. literal_reflexive s.text.now x };
 }
 
 impl<'a> Equality for Literals<'a> {
-    ghost symmetric = { λ s x y. literal-symmetric s.text.now x y };
+    ghost symmetric = { λ s x y. literal_symmetric s.text.now x y };
 
-    ghost transitive = { λ s x y z. literal-transitive s.text.now x y z };
+    ghost transitive = { λ s x y z. literal_transitive s.text.now x y z };
 }

@@ -19,7 +19,7 @@ returns-in-Some g c =
     let p3 = unless (s.within c.args.term) R.TextOutside 0 in
     let p4 = at_place R.TextOutside (first_not (λ l. text_inside (length s.text) l.value) c.args.given.now 0) in
     let p5 = at_place R.OtherStorage (first_not well_kept c.args.given.now 0) in
-    record { asks-in-order = first p1 (else p2 (else p3 (else p4 p5))) c.in-Some.e c.in-Some.ensures.names-the-lowest-unsound }
+    record { asks_in_order = first p1 (else p2 (else p3 (else p4 p5))) c.in-Some.e c.in-Some.ensures.names_the_lowest_unsound }
 
 pub returns-then-not-family : goal.returns-then-not-family
 unfolding barred_leaf
@@ -34,11 +34,11 @@ returns-then-not-family g c =
     let p3 = unless (s.within c.args.term) R.TextOutside 0 in
     let p4 = at_place R.TextOutside (first_not (λ l. text_inside (length s.text) l.value) c.args.given.now 0) in
     let p5 = at_place R.OtherStorage (first_not well_kept c.args.given.now 0) in
-    record { asks-in-order = next p1 (else p2 (else p3 (else p4 p5))) _ c.in-default.ensures.names-the-lowest-unsound (first p2 (else p3 (else p4 p5)) _ (unless_is false c.args.family R.OtherFamily 0 (sym c.if-not-family.true))) }
+    record { asks_in_order = next p1 (else p2 (else p3 (else p4 p5))) _ c.in_default.ensures.names_the_lowest_unsound (first p2 (else p3 (else p4 p5)) _ (unless_is false c.args.family R.OtherFamily 0 (sym c.if-not-family.true))) }
 
-pub returns-then-not-lies-within : goal.returns-then-not-lies-within
+pub returns-then-not-lies_within : goal.returns-then-not-lies_within
 unfolding barred_leaf
-returns-then-not-lies-within g c =
+returns-then-not-lies_within g c =
     let s = reads g.T.Term.within c.args.text.now c.args.places in
     let xs = c.args.slots.now in
     let used = c.args.used in
@@ -49,11 +49,11 @@ returns-then-not-lies-within g c =
     let p3 = unless (s.within c.args.term) R.TextOutside 0 in
     let p4 = at_place R.TextOutside (first_not (λ l. text_inside (length s.text) l.value) c.args.given.now 0) in
     let p5 = at_place R.OtherStorage (first_not well_kept c.args.given.now 0) in
-    record { asks-in-order = next p1 (else p2 (else p3 (else p4 p5))) _ c.in-default.ensures.names-the-lowest-unsound (next p2 (else p3 (else p4 p5)) _ (unless_is true c.args.family R.OtherFamily 0 (sym c.if-not-family.false)) (first p3 (else p4 p5) _ (unless_is false (s.within c.args.term) R.TextOutside 0 c.if-not-lies-within.ensures.asks-its-tables))) }
+    record { asks_in_order = next p1 (else p2 (else p3 (else p4 p5))) _ c.in_default.ensures.names_the_lowest_unsound (next p2 (else p3 (else p4 p5)) _ (unless_is true c.args.family R.OtherFamily 0 (sym c.if-not-family.false)) (first p3 (else p4 p5) _ (unless_is false (s.within c.args.term) R.TextOutside 0 c.if-not-lies_within.ensures.asks_its_tables))) }
 
-pub returns-in-Some-first-outside : goal.returns-in-Some-first-outside
+pub returns-in-Some-first_outside : goal.returns-in-Some-first_outside
 unfolding barred_leaf
-returns-in-Some-first-outside g c =
+returns-in-Some-first_outside g c =
     let s = reads g.T.Term.within c.args.text.now c.args.places in
     let xs = c.args.slots.now in
     let used = c.args.used in
@@ -64,11 +64,11 @@ returns-in-Some-first-outside g c =
     let p3 = unless (s.within c.args.term) R.TextOutside 0 in
     let p4 = at_place R.TextOutside (first_not (λ l. text_inside (length s.text) l.value) c.args.given.now 0) in
     let p5 = at_place R.OtherStorage (first_not well_kept c.args.given.now 0) in
-    record { asks-in-order = next p1 (else p2 (else p3 (else p4 p5))) _ c.in-default.ensures.names-the-lowest-unsound (next p2 (else p3 (else p4 p5)) _ (unless_is true c.args.family R.OtherFamily 0 (sym c.if-not-family.false)) (next p3 (else p4 p5) _ (unless_is true (s.within c.args.term) R.TextOutside 0 c.if-not-lies-within.ensures.asks-its-tables) (first p4 p5 _ (ap (at_place R.TextOutside) c.in-Some-first-outside.ensures.is-the-first)))) }
+    record { asks_in_order = next p1 (else p2 (else p3 (else p4 p5))) _ c.in_default.ensures.names_the_lowest_unsound (next p2 (else p3 (else p4 p5)) _ (unless_is true c.args.family R.OtherFamily 0 (sym c.if-not-family.false)) (next p3 (else p4 p5) _ (unless_is true (s.within c.args.term) R.TextOutside 0 c.if-not-lies_within.ensures.asks_its_tables) (first p4 p5 _ (ap (at_place R.TextOutside) c.in-Some-first_outside.ensures.is_the_first)))) }
 
-pub returns-in-Some-first-ill-kept : goal.returns-in-Some-first-ill-kept
+pub returns-in-Some-first_ill_kept : goal.returns-in-Some-first_ill_kept
 unfolding barred_leaf
-returns-in-Some-first-ill-kept g c =
+returns-in-Some-first_ill_kept g c =
     let s = reads g.T.Term.within c.args.text.now c.args.places in
     let xs = c.args.slots.now in
     let used = c.args.used in
@@ -79,7 +79,7 @@ returns-in-Some-first-ill-kept g c =
     let p3 = unless (s.within c.args.term) R.TextOutside 0 in
     let p4 = at_place R.TextOutside (first_not (λ l. text_inside (length s.text) l.value) c.args.given.now 0) in
     let p5 = at_place R.OtherStorage (first_not well_kept c.args.given.now 0) in
-    record { asks-in-order = next p1 (else p2 (else p3 (else p4 p5))) _ c.in-default.ensures.names-the-lowest-unsound (next p2 (else p3 (else p4 p5)) _ (unless_is true c.args.family R.OtherFamily 0 (sym c.if-not-family.false)) (next p3 (else p4 p5) _ (unless_is true (s.within c.args.term) R.TextOutside 0 c.if-not-lies-within.ensures.asks-its-tables) (next p4 p5 _ (ap (at_place R.TextOutside) c.in-default-first-outside.ensures.is-the-first) (ap (at_place R.OtherStorage) c.in-Some-first-ill-kept.ensures.is-the-first)))) }
+    record { asks_in_order = next p1 (else p2 (else p3 (else p4 p5))) _ c.in_default.ensures.names_the_lowest_unsound (next p2 (else p3 (else p4 p5)) _ (unless_is true c.args.family R.OtherFamily 0 (sym c.if-not-family.false)) (next p3 (else p4 p5) _ (unless_is true (s.within c.args.term) R.TextOutside 0 c.if-not-lies_within.ensures.asks_its_tables) (next p4 p5 _ (ap (at_place R.TextOutside) c.in_default-first_outside.ensures.is_the_first) (ap (at_place R.OtherStorage) c.in-Some-first_ill_kept.ensures.is_the_first)))) }
 
 pub returns-in-None : goal.returns-in-None
 unfolding barred_leaf
@@ -94,4 +94,4 @@ returns-in-None g c =
     let p3 = unless (s.within c.args.term) R.TextOutside 0 in
     let p4 = at_place R.TextOutside (first_not (λ l. text_inside (length s.text) l.value) c.args.given.now 0) in
     let p5 = at_place R.OtherStorage (first_not well_kept c.args.given.now 0) in
-    record { asks-in-order = next p1 (else p2 (else p3 (else p4 p5))) _ c.in-default.ensures.names-the-lowest-unsound (next p2 (else p3 (else p4 p5)) _ (unless_is true c.args.family R.OtherFamily 0 (sym c.if-not-family.false)) (next p3 (else p4 p5) _ (unless_is true (s.within c.args.term) R.TextOutside 0 c.if-not-lies-within.ensures.asks-its-tables) (next p4 p5 _ (ap (at_place R.TextOutside) c.in-default-first-outside.ensures.is-the-first) (ap (at_place R.OtherStorage) c.in-None.ensures.is-the-first)))) }
+    record { asks_in_order = next p1 (else p2 (else p3 (else p4 p5))) _ c.in_default.ensures.names_the_lowest_unsound (next p2 (else p3 (else p4 p5)) _ (unless_is true c.args.family R.OtherFamily 0 (sym c.if-not-family.false)) (next p3 (else p4 p5) _ (unless_is true (s.within c.args.term) R.TextOutside 0 c.if-not-lies_within.ensures.asks_its_tables) (next p4 p5 _ (ap (at_place R.TextOutside) c.in_default-first_outside.ensures.is_the_first) (ap (at_place R.OtherStorage) c.in-None.ensures.is_the_first)))) }

@@ -6,13 +6,13 @@ pub returns-in-Some : goal.returns-in-Some
 returns-in-Some g c =
     let xs = c.args.slots.now in
     let used = c.args.used.now in
-    record { lays-it = roomy_no xs used _ c.in-Some.e c.in-Some.ensures.asks-for-a-node }
+    record { lays_it = roomy_no xs used _ c.in-Some.e c.in-Some.ensures.asks_for_a_node }
 
 pub push-requires : goal.push-requires
-push-requires g c = record { room = full_inside c.args.slots.now c.args.used.now c.in-default.ensures.asks-for-a-node; few = full_few c.args.slots.now c.args.used.now c.in-default.ensures.asks-for-a-node }
+push-requires g c = record { room = full_inside c.args.slots.now c.args.used.now c.in_default.ensures.asks_for_a_node; few = full_few c.args.slots.now c.args.used.now c.in_default.ensures.asks_for_a_node }
 
 pub returns : goal.returns
 returns g c =
     let xs = c.args.slots.now in
     let used = c.args.used.now in
-    record { lays-it = roomy_yes xs used (laid xs used c.args.node) _ c.in-default.ensures.asks-for-a-node (laid_is xs c.push.new.slots used c.args.node c.push.new.used c.push.result c.push.ensures.writes-one-slot c.push.ensures.counts-one-more c.push.ensures.answers-its-number) }
+    record { lays_it = roomy_yes xs used (laid xs used c.args.node) _ c.in_default.ensures.asks_for_a_node (laid_is xs c.push.new.slots used c.args.node c.push.new.used c.push.result c.push.ensures.writes_one_slot c.push.ensures.counts_one_more c.push.ensures.answers_its_number) }

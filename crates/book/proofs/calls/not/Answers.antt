@@ -11,10 +11,10 @@ pub returns-in-Some : goal.returns-in-Some
 returns-in-Some g c =
     let xs = c.args.slots.now in
     let used = c.args.used.now in
-    record { lays-a-not = roomy_no xs used _ c.in-Some.e c.in-Some.ensures.asks-for-a-node }
+    record { lays_a_not = roomy_no xs used _ c.in-Some.e c.in-Some.ensures.asks_for_a_node }
 
 pub push-requires : goal.push-requires
-push-requires g c = record { room = omega (arith, full_inside c.args.slots.now c.args.used.now c.in-default.ensures.asks-for-a-node, c.put-mark.auto.slots); few = full_few c.args.slots.now c.args.used.now c.in-default.ensures.asks-for-a-node }
+push-requires g c = record { room = omega (arith, full_inside c.args.slots.now c.args.used.now c.in_default.ensures.asks_for_a_node, c.put_mark.auto.slots); few = full_few c.args.slots.now c.args.used.now c.in_default.ensures.asks_for_a_node }
 
 pub returns : goal.returns
 returns g c =
@@ -22,6 +22,6 @@ returns g c =
     let used = c.args.used.now in
     let v = Not c.args.a in
     record {
-      lays-a-not = roomy_yes xs used (laid (marked c.args.a Joined xs) used v) _ c.in-default.ensures.asks-for-a-node
-          (laid_is (marked c.args.a Joined xs) c.push.new.slots used v c.push.new.used c.push.result (c.push.ensures.writes-one-slot ∙ ap (λ x. set x used (slot v Standing)) c.put-mark.ensures.marks-it-alone) c.push.ensures.counts-one-more c.push.ensures.answers-its-number);
+      lays_a_not = roomy_yes xs used (laid (marked c.args.a Joined xs) used v) _ c.in_default.ensures.asks_for_a_node
+          (laid_is (marked c.args.a Joined xs) c.push.new.slots used v c.push.new.used c.push.result (c.push.ensures.writes_one_slot ∙ ap (λ x. set x used (slot v Standing)) c.put_mark.ensures.marks_it_alone) c.push.ensures.counts_one_more c.push.ensures.answers_its_number);
     }

@@ -1,7 +1,6 @@
 use Rattle.std.proofs.Common.{◌≡◌, ℕ, Bool, true, false, List, sym, refl, ap, ◌∙◌, arith}
 use Rattle.filters.specs.Placed.{Placed, constant_at, condition_at, and_node_at, or_node_at, not_node_at, root, rewritten_placed}
 use Rattle.nodes.specs.declared.slots.Slot.{Slot}
-use Rattle.nodes.specs.declared.slots.Node.TheVariants.{And, Or}
 use Rattle.nodes.specs.Conditions.{unary, binary, among, opposite}
 use Rattle.nodes.specs.Tables.{Held, nodes, filter_at}
 use Rattle.book.specs.declared.edits.Connective.TheVariants as C
@@ -15,10 +14,10 @@ use Rattle.book.proofs.edits.+rewrite.Goals as goal
 
 -- what the contract says where the filter is p
 abbrev Says : {T : Type 0} → Bool → List (Slot T) → ℕ → List (Slot T) → ℕ → Type 0
-Says folds xs n ys r = record { answers-the-root : r ≡ root (rewritten_placed folds opposite (filter_at xs n)); rewrites-in-place : ys ≡ rewriting folds (filter_at xs n) xs }
+Says folds xs n ys r = record { answers_the_root : r ≡ root (rewritten_placed folds opposite (filter_at xs n)); rewrites_in_place : ys ≡ rewriting folds (filter_at xs n) xs }
 
 says : {T : Type 0} (folds : Bool) (xs : List (Slot T)) (n : ℕ) (p : Placed (Held T)) (ys : List (Slot T)) (r : ℕ) → filter_at xs n ≡ p → r ≡ root (rewritten_placed folds opposite p) → ys ≡ rewriting folds p xs → Says folds xs n ys r
-says folds xs n p ys r e a s = record { answers-the-root = a ∙ sym (ap (λ q. root (rewritten_placed folds opposite q)) e); rewrites-in-place = s ∙ sym (ap (λ q. rewriting folds q xs) e) }
+says folds xs n p ys r e a s = record { answers_the_root = a ∙ sym (ap (λ q. root (rewritten_placed folds opposite q)) e); rewrites_in_place = s ∙ sym (ap (λ q. rewriting folds q xs) e) }
 
 pub rewrite-l-requires : goal.rewrite-l-requires
 rewrite-l-requires g t c κs within =
@@ -36,7 +35,7 @@ rewrite-r-requires g t c κs within =
     let e = read xs n c.index-slots-i.result c.requires.inside c.index-slots-i.is in
     let d = read_node xs n c.index-slots-i.result _ e c.in-And.is in
     let two = two_and xs n c.in-And.l c.in-And.r d c.requires in
-    (omega (arith, two.right, c.decreases), (within, rewrite_second c.args.folds xs n c.in-And.l c.in-And.r two c.rewrite-l.new.slots c.rewrite-l.result c.rewrite-l.ensures.answers-the-root c.rewrite-l.ensures.rewrites-in-place))
+    (omega (arith, two.right, c.decreases), (within, rewrite_second c.args.folds xs n c.in-And.l c.in-And.r two c.rewrite-l.new.slots c.rewrite-l.result c.rewrite-l.ensures.answers_the_root c.rewrite-l.ensures.rewrites_in_place))
 
 pub fold-requires : goal.fold-requires
 fold-requires g t c =
@@ -46,9 +45,9 @@ fold-requires g t c =
     let d = read_node xs n c.index-slots-i.result _ e c.in-And.is in
     let two = two_and xs n c.in-And.l c.in-And.r d c.requires in
     record {
-      inside = fold_inside c.args.folds xs n c.in-And.l c.in-And.r two c.rewrite-l.new.slots c.rewrite-l.result c.rewrite-l.ensures.answers-the-root c.rewrite-l.ensures.rewrites-in-place c.rewrite-r.new.slots c.rewrite-r.result c.rewrite-r.ensures.answers-the-root c.rewrite-r.ensures.rewrites-in-place c.requires.inside;
-      left = fold_first c.args.folds xs n c.in-And.l c.in-And.r two c.rewrite-l.new.slots c.rewrite-l.result c.rewrite-l.ensures.answers-the-root c.rewrite-l.ensures.rewrites-in-place c.rewrite-r.new.slots c.rewrite-r.result c.rewrite-r.ensures.answers-the-root c.rewrite-r.ensures.rewrites-in-place;
-      right = fold_second c.args.folds xs n c.in-And.l c.in-And.r two c.rewrite-l.new.slots c.rewrite-l.result c.rewrite-l.ensures.answers-the-root c.rewrite-l.ensures.rewrites-in-place c.rewrite-r.new.slots c.rewrite-r.result c.rewrite-r.ensures.answers-the-root c.rewrite-r.ensures.rewrites-in-place;
+      inside = fold_inside c.args.folds xs n c.in-And.l c.in-And.r two c.rewrite-l.new.slots c.rewrite-l.result c.rewrite-l.ensures.answers_the_root c.rewrite-l.ensures.rewrites_in_place c.rewrite-r.new.slots c.rewrite-r.result c.rewrite-r.ensures.answers_the_root c.rewrite-r.ensures.rewrites_in_place c.requires.inside;
+      left = fold_first c.args.folds xs n c.in-And.l c.in-And.r two c.rewrite-l.new.slots c.rewrite-l.result c.rewrite-l.ensures.answers_the_root c.rewrite-l.ensures.rewrites_in_place c.rewrite-r.new.slots c.rewrite-r.result c.rewrite-r.ensures.answers_the_root c.rewrite-r.ensures.rewrites_in_place;
+      right = fold_second c.args.folds xs n c.in-And.l c.in-And.r two c.rewrite-l.new.slots c.rewrite-l.result c.rewrite-l.ensures.answers_the_root c.rewrite-l.ensures.rewrites_in_place c.rewrite-r.new.slots c.rewrite-r.result c.rewrite-r.ensures.answers_the_root c.rewrite-r.ensures.rewrites_in_place;
     }
 
 pub returns-in-And : goal.returns-in-And
@@ -61,8 +60,8 @@ returns-in-And g t c =
     let p = filter_at xs c.in-And.l in
     let q = filter_at xs c.in-And.r in
     says c.args.folds xs n (and_node_at n p q) _ _ (at_both (nodes xs) n c.in-And.l c.in-And.r d two.left two.right)
-    (fold_answer c.args.folds xs n c.in-And.l c.in-And.r two c.rewrite-l.new.slots c.rewrite-l.result c.rewrite-l.ensures.answers-the-root c.rewrite-l.ensures.rewrites-in-place c.rewrite-r.new.slots c.rewrite-r.result c.rewrite-r.ensures.answers-the-root c.rewrite-r.ensures.rewrites-in-place C.And c.fold.result c.fold.ensures.answers-the-root ∙ sym (ap root (and_joined c.args.folds n (rewritten_placed c.args.folds opposite p) (rewritten_placed c.args.folds opposite q))))
-    (fold_slots c.args.folds xs n c.in-And.l c.in-And.r two c.rewrite-l.new.slots c.rewrite-l.result c.rewrite-l.ensures.answers-the-root c.rewrite-l.ensures.rewrites-in-place c.rewrite-r.new.slots c.rewrite-r.result c.rewrite-r.ensures.answers-the-root c.rewrite-r.ensures.rewrites-in-place C.And c.fold.new.slots c.fold.ensures.folds-in-place)
+    (fold_answer c.args.folds xs n c.in-And.l c.in-And.r two c.rewrite-l.new.slots c.rewrite-l.result c.rewrite-l.ensures.answers_the_root c.rewrite-l.ensures.rewrites_in_place c.rewrite-r.new.slots c.rewrite-r.result c.rewrite-r.ensures.answers_the_root c.rewrite-r.ensures.rewrites_in_place C.And c.fold.result c.fold.ensures.answers_the_root ∙ sym (ap root (and_joined c.args.folds n (rewritten_placed c.args.folds opposite p) (rewritten_placed c.args.folds opposite q))))
+    (fold_slots c.args.folds xs n c.in-And.l c.in-And.r two c.rewrite-l.new.slots c.rewrite-l.result c.rewrite-l.ensures.answers_the_root c.rewrite-l.ensures.rewrites_in_place c.rewrite-r.new.slots c.rewrite-r.result c.rewrite-r.ensures.answers_the_root c.rewrite-r.ensures.rewrites_in_place C.And c.fold.new.slots c.fold.ensures.folds_in_place)
 
 pub rewrite-l-requires-in-Or : goal.rewrite-l-requires-in-Or
 rewrite-l-requires-in-Or g t c κs within =
@@ -80,7 +79,7 @@ rewrite-r-requires-in-Or g t c κs within =
     let e = read xs n c.index-slots-i.result c.requires.inside c.index-slots-i.is in
     let d = read_node xs n c.index-slots-i.result _ e c.in-Or.is in
     let two = two_or xs n c.in-Or.l c.in-Or.r d c.requires in
-    (omega (arith, two.right, c.decreases), (within, rewrite_second c.args.folds xs n c.in-Or.l c.in-Or.r two c.rewrite-l-in-Or.new.slots c.rewrite-l-in-Or.result c.rewrite-l-in-Or.ensures.answers-the-root c.rewrite-l-in-Or.ensures.rewrites-in-place))
+    (omega (arith, two.right, c.decreases), (within, rewrite_second c.args.folds xs n c.in-Or.l c.in-Or.r two c.rewrite-l-in-Or.new.slots c.rewrite-l-in-Or.result c.rewrite-l-in-Or.ensures.answers_the_root c.rewrite-l-in-Or.ensures.rewrites_in_place))
 
 pub fold-requires-in-Or : goal.fold-requires-in-Or
 fold-requires-in-Or g t c =
@@ -90,9 +89,9 @@ fold-requires-in-Or g t c =
     let d = read_node xs n c.index-slots-i.result _ e c.in-Or.is in
     let two = two_or xs n c.in-Or.l c.in-Or.r d c.requires in
     record {
-      inside = fold_inside c.args.folds xs n c.in-Or.l c.in-Or.r two c.rewrite-l-in-Or.new.slots c.rewrite-l-in-Or.result c.rewrite-l-in-Or.ensures.answers-the-root c.rewrite-l-in-Or.ensures.rewrites-in-place c.rewrite-r-in-Or.new.slots c.rewrite-r-in-Or.result c.rewrite-r-in-Or.ensures.answers-the-root c.rewrite-r-in-Or.ensures.rewrites-in-place c.requires.inside;
-      left = fold_first c.args.folds xs n c.in-Or.l c.in-Or.r two c.rewrite-l-in-Or.new.slots c.rewrite-l-in-Or.result c.rewrite-l-in-Or.ensures.answers-the-root c.rewrite-l-in-Or.ensures.rewrites-in-place c.rewrite-r-in-Or.new.slots c.rewrite-r-in-Or.result c.rewrite-r-in-Or.ensures.answers-the-root c.rewrite-r-in-Or.ensures.rewrites-in-place;
-      right = fold_second c.args.folds xs n c.in-Or.l c.in-Or.r two c.rewrite-l-in-Or.new.slots c.rewrite-l-in-Or.result c.rewrite-l-in-Or.ensures.answers-the-root c.rewrite-l-in-Or.ensures.rewrites-in-place c.rewrite-r-in-Or.new.slots c.rewrite-r-in-Or.result c.rewrite-r-in-Or.ensures.answers-the-root c.rewrite-r-in-Or.ensures.rewrites-in-place;
+      inside = fold_inside c.args.folds xs n c.in-Or.l c.in-Or.r two c.rewrite-l-in-Or.new.slots c.rewrite-l-in-Or.result c.rewrite-l-in-Or.ensures.answers_the_root c.rewrite-l-in-Or.ensures.rewrites_in_place c.rewrite-r-in-Or.new.slots c.rewrite-r-in-Or.result c.rewrite-r-in-Or.ensures.answers_the_root c.rewrite-r-in-Or.ensures.rewrites_in_place c.requires.inside;
+      left = fold_first c.args.folds xs n c.in-Or.l c.in-Or.r two c.rewrite-l-in-Or.new.slots c.rewrite-l-in-Or.result c.rewrite-l-in-Or.ensures.answers_the_root c.rewrite-l-in-Or.ensures.rewrites_in_place c.rewrite-r-in-Or.new.slots c.rewrite-r-in-Or.result c.rewrite-r-in-Or.ensures.answers_the_root c.rewrite-r-in-Or.ensures.rewrites_in_place;
+      right = fold_second c.args.folds xs n c.in-Or.l c.in-Or.r two c.rewrite-l-in-Or.new.slots c.rewrite-l-in-Or.result c.rewrite-l-in-Or.ensures.answers_the_root c.rewrite-l-in-Or.ensures.rewrites_in_place c.rewrite-r-in-Or.new.slots c.rewrite-r-in-Or.result c.rewrite-r-in-Or.ensures.answers_the_root c.rewrite-r-in-Or.ensures.rewrites_in_place;
     }
 
 pub returns-in-Or : goal.returns-in-Or
@@ -105,8 +104,8 @@ returns-in-Or g t c =
     let p = filter_at xs c.in-Or.l in
     let q = filter_at xs c.in-Or.r in
     says c.args.folds xs n (or_node_at n p q) _ _ (at_either (nodes xs) n c.in-Or.l c.in-Or.r d two.left two.right)
-    (fold_answer c.args.folds xs n c.in-Or.l c.in-Or.r two c.rewrite-l-in-Or.new.slots c.rewrite-l-in-Or.result c.rewrite-l-in-Or.ensures.answers-the-root c.rewrite-l-in-Or.ensures.rewrites-in-place c.rewrite-r-in-Or.new.slots c.rewrite-r-in-Or.result c.rewrite-r-in-Or.ensures.answers-the-root c.rewrite-r-in-Or.ensures.rewrites-in-place C.Or c.fold-in-Or.result c.fold-in-Or.ensures.answers-the-root ∙ sym (ap root (or_joined c.args.folds n (rewritten_placed c.args.folds opposite p) (rewritten_placed c.args.folds opposite q))))
-    (fold_slots c.args.folds xs n c.in-Or.l c.in-Or.r two c.rewrite-l-in-Or.new.slots c.rewrite-l-in-Or.result c.rewrite-l-in-Or.ensures.answers-the-root c.rewrite-l-in-Or.ensures.rewrites-in-place c.rewrite-r-in-Or.new.slots c.rewrite-r-in-Or.result c.rewrite-r-in-Or.ensures.answers-the-root c.rewrite-r-in-Or.ensures.rewrites-in-place C.Or c.fold-in-Or.new.slots c.fold-in-Or.ensures.folds-in-place)
+    (fold_answer c.args.folds xs n c.in-Or.l c.in-Or.r two c.rewrite-l-in-Or.new.slots c.rewrite-l-in-Or.result c.rewrite-l-in-Or.ensures.answers_the_root c.rewrite-l-in-Or.ensures.rewrites_in_place c.rewrite-r-in-Or.new.slots c.rewrite-r-in-Or.result c.rewrite-r-in-Or.ensures.answers_the_root c.rewrite-r-in-Or.ensures.rewrites_in_place C.Or c.fold-in-Or.result c.fold-in-Or.ensures.answers_the_root ∙ sym (ap root (or_joined c.args.folds n (rewritten_placed c.args.folds opposite p) (rewritten_placed c.args.folds opposite q))))
+    (fold_slots c.args.folds xs n c.in-Or.l c.in-Or.r two c.rewrite-l-in-Or.new.slots c.rewrite-l-in-Or.result c.rewrite-l-in-Or.ensures.answers_the_root c.rewrite-l-in-Or.ensures.rewrites_in_place c.rewrite-r-in-Or.new.slots c.rewrite-r-in-Or.result c.rewrite-r-in-Or.ensures.answers_the_root c.rewrite-r-in-Or.ensures.rewrites_in_place C.Or c.fold-in-Or.new.slots c.fold-in-Or.ensures.folds_in_place)
 
 pub rewrite-y-requires : goal.rewrite-y-requires
 rewrite-y-requires g t c κs within =
@@ -126,7 +125,7 @@ flip-requires g t c =
     let one = one_not xs n c.in-Not.x d c.requires in
     let s = c.index-slots-i-in-Not.result in
     let es = read c.rewrite-y.new.slots n s (omega (arith, c.rewrite-y.auto.slots, c.requires.inside)) c.index-slots-i-in-Not.is in
-    not_whole c.args.folds xs n c.in-Not.x one.whole c.rewrite-y.new.slots c.rewrite-y.result c.rewrite-y.ensures.answers-the-root c.rewrite-y.ensures.rewrites-in-place s es
+    not_whole c.args.folds xs n c.in-Not.x one.whole c.rewrite-y.new.slots c.rewrite-y.result c.rewrite-y.ensures.answers_the_root c.rewrite-y.ensures.rewrites_in_place s es
 
 pub returns-in-Not : goal.returns-in-Not
 returns-in-Not g t c =
@@ -138,8 +137,8 @@ returns-in-Not g t c =
     let s = c.index-slots-i-in-Not.result in
     let es = read c.rewrite-y.new.slots n s (omega (arith, c.rewrite-y.auto.slots, c.requires.inside)) c.index-slots-i-in-Not.is in
     says c.args.folds xs n (not_node_at n (filter_at xs c.in-Not.x)) _ _ (at_other (nodes xs) n c.in-Not.x d one.under)
-    (not_answer c.args.folds xs n c.in-Not.x one.whole c.rewrite-y.new.slots c.rewrite-y.result c.rewrite-y.ensures.answers-the-root c.rewrite-y.ensures.rewrites-in-place s es c.flip.result c.flip.ensures.answers-the-root)
-    (not_slots c.args.folds xs n c.in-Not.x one.whole c.rewrite-y.new.slots c.rewrite-y.result c.rewrite-y.ensures.answers-the-root c.rewrite-y.ensures.rewrites-in-place s es c.flip.new.slots c.flip.ensures.negates-in-place)
+    (not_answer c.args.folds xs n c.in-Not.x one.whole c.rewrite-y.new.slots c.rewrite-y.result c.rewrite-y.ensures.answers_the_root c.rewrite-y.ensures.rewrites_in_place s es c.flip.result c.flip.ensures.answers_the_root)
+    (not_slots c.args.folds xs n c.in-Not.x one.whole c.rewrite-y.new.slots c.rewrite-y.result c.rewrite-y.ensures.answers_the_root c.rewrite-y.ensures.rewrites_in_place s es c.flip.new.slots c.flip.ensures.negates_in_place)
 
 pub returns-in-AlwaysTrue : goal.returns-in-AlwaysTrue
 returns-in-AlwaysTrue g t c =

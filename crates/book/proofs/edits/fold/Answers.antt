@@ -30,10 +30,10 @@ returns-in-First g c =
     let el = read xs c.args.l c.index-slots-l.result c.requires.left.inside c.index-slots-l.is in
     let er = read xs c.args.r c.index-slots-r.result c.requires.right.inside c.index-slots-r.is in
     let e = read xs n c.index-slots-i.result c.requires.inside c.index-slots-i.is in
-    let k = fold_side c.args.folds c.args.connective xs c.args.l c.args.r c.index-slots-l.result c.index-slots-r.result First el er c.in-First.ensures.goes-by-the-constants in
+    let k = fold_side c.args.folds c.args.connective xs c.args.l c.args.r c.index-slots-l.result c.index-slots-r.result First el er c.in-First.ensures.goes_by_the_constants in
     record {
-      answers-the-root = sym (ap (λ x. root (picked x p q (join_at c.args.connective n p q))) k ∙ of_root (nodes xs) c.args.l);
-      folds-in-place = strike_one xs n c.index-slots-i.result e c.args.r c.requires.right c.strike.new.slots c.strike.ensures.strikes-each-node ∙ sym (ap (λ x. picked x (struck q (marked n Struck xs)) (struck p (marked n Struck xs)) (set xs n (slot (join c.args.connective (root p) (root q)) (at xs n).mark))) k);
+      answers_the_root = sym (ap (λ x. root (picked x p q (join_at c.args.connective n p q))) k ∙ of_root (nodes xs) c.args.l);
+      folds_in_place = strike_one xs n c.index-slots-i.result e c.args.r c.requires.right c.strike.new.slots c.strike.ensures.strikes_each_node ∙ sym (ap (λ x. picked x (struck q (marked n Struck xs)) (struck p (marked n Struck xs)) (set xs n (slot (join c.args.connective (root p) (root q)) (at xs n).mark))) k);
     }
 
 pub returns-in-Second : goal.returns-in-Second
@@ -45,10 +45,10 @@ returns-in-Second g c =
     let el = read xs c.args.l c.index-slots-l.result c.requires.left.inside c.index-slots-l.is in
     let er = read xs c.args.r c.index-slots-r.result c.requires.right.inside c.index-slots-r.is in
     let e = read xs n c.index-slots-i.result c.requires.inside c.index-slots-i.is in
-    let k = fold_side c.args.folds c.args.connective xs c.args.l c.args.r c.index-slots-l.result c.index-slots-r.result Second el er c.in-Second.ensures.goes-by-the-constants in
+    let k = fold_side c.args.folds c.args.connective xs c.args.l c.args.r c.index-slots-l.result c.index-slots-r.result Second el er c.in-Second.ensures.goes_by_the_constants in
     record {
-      answers-the-root = sym (ap (λ x. root (picked x p q (join_at c.args.connective n p q))) k ∙ of_root (nodes xs) c.args.r);
-      folds-in-place = strike_one xs n c.index-slots-i.result e c.args.l c.requires.left c.strike-in-Second.new.slots c.strike-in-Second.ensures.strikes-each-node ∙ sym (ap (λ x. picked x (struck q (marked n Struck xs)) (struck p (marked n Struck xs)) (set xs n (slot (join c.args.connective (root p) (root q)) (at xs n).mark))) k);
+      answers_the_root = sym (ap (λ x. root (picked x p q (join_at c.args.connective n p q))) k ∙ of_root (nodes xs) c.args.r);
+      folds_in_place = strike_one xs n c.index-slots-i.result e c.args.l c.requires.left c.strike-in-Second.new.slots c.strike-in-Second.ensures.strikes_each_node ∙ sym (ap (λ x. picked x (struck q (marked n Struck xs)) (struck p (marked n Struck xs)) (set xs n (slot (join c.args.connective (root p) (root q)) (at xs n).mark))) k);
     }
 
 pub returns-in-Both : goal.returns-in-Both
@@ -60,8 +60,8 @@ returns-in-Both g c =
     let el = read xs c.args.l c.index-slots-l.result c.requires.left.inside c.index-slots-l.is in
     let er = read xs c.args.r c.index-slots-r.result c.requires.right.inside c.index-slots-r.is in
     let e = read xs n c.index-slots-i.result c.requires.inside c.index-slots-i.is in
-    let k = fold_side c.args.folds c.args.connective xs c.args.l c.args.r c.index-slots-l.result c.index-slots-r.result Both el er c.in-Both.ensures.goes-by-the-constants in
+    let k = fold_side c.args.folds c.args.connective xs c.args.l c.args.r c.index-slots-l.result c.index-slots-r.result Both el er c.in-Both.ensures.goes_by_the_constants in
     record {
-      answers-the-root = sym (ap (λ x. root (picked x p q (join_at c.args.connective n p q))) k ∙ join_root c.args.connective n p q);
-      folds-in-place = ap₂ (λ x (y : Slot _). set xs n (slot x y.mark)) (c.joining.ensures.is-the-join ∙ sym (ap₂ (join c.args.connective) (of_root (nodes xs) c.args.l) (of_root (nodes xs) c.args.r))) (sym e) ∙ sym (ap (λ x. picked x (struck q (marked n Struck xs)) (struck p (marked n Struck xs)) (set xs n (slot (join c.args.connective (root p) (root q)) (at xs n).mark))) k);
+      answers_the_root = sym (ap (λ x. root (picked x p q (join_at c.args.connective n p q))) k ∙ join_root c.args.connective n p q);
+      folds_in_place = ap₂ (λ x (y : Slot _). set xs n (slot x y.mark)) (c.joining.ensures.is_the_join ∙ sym (ap₂ (join c.args.connective) (of_root (nodes xs) c.args.l) (of_root (nodes xs) c.args.r))) (sym e) ∙ sym (ap (λ x. picked x (struck q (marked n Struck xs)) (struck p (marked n Struck xs)) (set xs n (slot (join c.args.connective (root p) (root q)) (at xs n).mark))) k);
     }

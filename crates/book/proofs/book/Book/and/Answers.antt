@@ -10,14 +10,14 @@ unfolding join_after
 returns-in-Some g c =
     let s = setting g.T.Term.within c.args.self.now in
     let b = tables c.args.self.now in
-    let e = no b (barred_two s b c.args.a c.args.b) _ c.in-Some.e c.in-Some.ensures.asks-two-that-stand in
-    record { answers-and-leaves-what-the-rules-give = e; reads-the-same-text = refl; is-a-step-of-every-run = λ ts ran. called (ask_and c.args.a c.args.b) _ _ ran e }
+    let e = no b (barred_two s b c.args.a c.args.b) _ c.in-Some.e c.in-Some.ensures.asks_two_that_stand in
+    record { answers_and_leaves_what_the_rules_give = e; reads_the_same_text = refl; is_a_step_of_every_run = λ ts ran. called (ask_and c.args.a c.args.b) _ _ ran e }
 
 pub join-answer-requires : goal.join-answer-requires
 join-answer-requires g c =
     let s = setting g.T.Term.within c.args.self.now in
     let b = tables c.args.self.now in
-    let w = two s b c.args.a c.args.b c.in-default.ensures.asks-two-that-stand in
+    let w = two s b c.args.a c.args.b c.in_default.ensures.asks_two_that_stand in
     record { left = free_whole b.slots b.used c.args.a w.left; right = free_whole b.slots b.used c.args.b w.right }
 
 pub returns : goal.returns
@@ -25,5 +25,5 @@ unfolding join_after
 returns g c =
     let s = setting g.T.Term.within c.args.self.now in
     let b = tables c.args.self.now in
-    let e = yes' b (barred_two s b c.args.a c.args.b) _ _ c.in-default.ensures.asks-two-that-stand (ap (writing b) c.join-answer.ensures.joins-or-folds) in
-    record { answers-and-leaves-what-the-rules-give = e; reads-the-same-text = refl; is-a-step-of-every-run = λ ts ran. called (ask_and c.args.a c.args.b) _ _ ran e }
+    let e = yes' b (barred_two s b c.args.a c.args.b) _ _ c.in_default.ensures.asks_two_that_stand (ap (writing b) c.join-answer.ensures.joins_or_folds) in
+    record { answers_and_leaves_what_the_rules_give = e; reads_the_same_text = refl; is_a_step_of_every_run = λ ts ran. called (ask_and c.args.a c.args.b) _ _ ran e }

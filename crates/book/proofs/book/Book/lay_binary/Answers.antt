@@ -17,8 +17,8 @@ returns-in-Some g c =
     let new = c.args.literal ∷ [] in
     let f = full b.slots b.used in
     let k = crowded b.literals b.stored new in
-    let e = no b (else p (else f k)) _ c.in-Some.e (first p (else f k) c.in-Some.e (leaf_is s b (Some c.in-Some.e) c.is_binary.result (is_binary c.args.op) c.args.term (c.args.literal ∷ []) c.is_binary.ensures.is-of-the-binary-family c.in-Some.ensures.asks-in-order)) in
-    record { answers-and-leaves-what-the-rules-give = e; reads-the-same-text = refl; is-a-step-of-every-run = λ ts ran. called (lay_binary c.args.op c.args.term c.args.literal) _ _ ran e }
+    let e = no b (else p (else f k)) _ c.in-Some.e (first p (else f k) c.in-Some.e (leaf_is s b (Some c.in-Some.e) c.is_binary.result (is_binary c.args.op) c.args.term (c.args.literal ∷ []) c.is_binary.ensures.is_of_the_binary_family c.in-Some.ensures.asks_in_order)) in
+    record { answers_and_leaves_what_the_rules_give = e; reads_the_same_text = refl; is_a_step_of_every_run = λ ts ran. called (lay_binary c.args.op c.args.term c.args.literal) _ _ ran e }
 
 pub returns-in-Some-full : goal.returns-in-Some-full
 unfolding binary_after
@@ -29,14 +29,14 @@ returns-in-Some-full g c =
     let new = c.args.literal ∷ [] in
     let f = full b.slots b.used in
     let k = crowded b.literals b.stored new in
-    let e = no b (else p (else f k)) _ c.in-Some-full.e (next p (else f k) (Some c.in-Some-full.e) (leaf_is s b None c.is_binary.result (is_binary c.args.op) c.args.term (c.args.literal ∷ []) c.is_binary.ensures.is-of-the-binary-family c.in-default.ensures.asks-in-order) (first f k c.in-Some-full.e c.in-Some-full.ensures.asks-for-a-node)) in
-    record { answers-and-leaves-what-the-rules-give = e; reads-the-same-text = refl; is-a-step-of-every-run = λ ts ran. called (lay_binary c.args.op c.args.term c.args.literal) _ _ ran e }
+    let e = no b (else p (else f k)) _ c.in-Some-full.e (next p (else f k) (Some c.in-Some-full.e) (leaf_is s b None c.is_binary.result (is_binary c.args.op) c.args.term (c.args.literal ∷ []) c.is_binary.ensures.is_of_the_binary_family c.in_default.ensures.asks_in_order) (first f k c.in-Some-full.e c.in-Some-full.ensures.asks_for_a_node)) in
+    record { answers_and_leaves_what_the_rules_give = e; reads_the_same_text = refl; is_a_step_of_every_run = λ ts ran. called (lay_binary c.args.op c.args.term c.args.literal) _ _ ran e }
 
 pub push-n-requires : goal.push-n-requires
 push-n-requires g c =
     let s = setting g.T.Term.within c.args.self.now in
     let b = tables c.args.self.now in
-    record { room = full_inside b.slots b.used c.in-default-full.ensures.asks-for-a-node; few = full_few b.slots b.used c.in-default-full.ensures.asks-for-a-node }
+    record { room = full_inside b.slots b.used c.in_default-full.ensures.asks_for_a_node; few = full_few b.slots b.used c.in_default-full.ensures.asks_for_a_node }
 
 pub returns-in-Some-store : goal.returns-in-Some-store
 unfolding binary_after
@@ -47,10 +47,10 @@ returns-in-Some-store g c =
     let new = c.args.literal ∷ [] in
     let f = full b.slots b.used in
     let k = crowded b.literals b.stored new in
-    let st = stored b.literals c.store.new.literals new b.stored c.in-Some-store.end c.in-Some-store.ensures.answers-the-end c.store.ensures.stores-all-or-nothing in
+    let st = stored b.literals c.store.new.literals new b.stored c.in-Some-store.end c.in-Some-store.ensures.answers_the_end c.store.ensures.stores_all_or_nothing in
     let v = Binary c.args.op c.args.term b.stored in
-    let e = yes' b (else p (else f k)) (writing (storing b new) (laid b.slots b.used v)) _ (next p (else f k) None (leaf_is s b None c.is_binary.result (is_binary c.args.op) c.args.term (c.args.literal ∷ []) c.is_binary.ensures.is-of-the-binary-family c.in-default.ensures.asks-in-order) (next f k None c.in-default-full.ensures.asks-for-a-node st.room)) (λ i. writing (tables_of b.slots b.used (st.table i) (st.is i)) (laid_is b.slots c.push-n.new.slots b.used v c.push-n.new.used c.push-n.result c.push-n.ensures.writes-one-slot c.push-n.ensures.counts-one-more c.push-n.ensures.answers-its-number i)) in
-    record { answers-and-leaves-what-the-rules-give = e; reads-the-same-text = refl; is-a-step-of-every-run = λ ts ran. called (lay_binary c.args.op c.args.term c.args.literal) _ _ ran e }
+    let e = yes' b (else p (else f k)) (writing (storing b new) (laid b.slots b.used v)) _ (next p (else f k) None (leaf_is s b None c.is_binary.result (is_binary c.args.op) c.args.term (c.args.literal ∷ []) c.is_binary.ensures.is_of_the_binary_family c.in_default.ensures.asks_in_order) (next f k None c.in_default-full.ensures.asks_for_a_node st.room)) (λ i. writing (tables_of b.slots b.used (st.table i) (st.is i)) (laid_is b.slots c.push-n.new.slots b.used v c.push-n.new.used c.push-n.result c.push-n.ensures.writes_one_slot c.push-n.ensures.counts_one_more c.push-n.ensures.answers_its_number i)) in
+    record { answers_and_leaves_what_the_rules_give = e; reads_the_same_text = refl; is_a_step_of_every_run = λ ts ran. called (lay_binary c.args.op c.args.term c.args.literal) _ _ ran e }
 
 pub returns-in-None : goal.returns-in-None
 unfolding binary_after
@@ -61,6 +61,6 @@ returns-in-None g c =
     let new = c.args.literal ∷ [] in
     let f = full b.slots b.used in
     let k = crowded b.literals b.stored new in
-    let many = too_many b.literals c.store.new.literals new b.stored c.in-None.ensures.answers-the-end c.store.ensures.stores-all-or-nothing in
-    let e = ap (λ w. after (tables_of b.slots b.used w b.stored) (Err (refused R.LiteralsDontFit 0))) many.1 ∙ no b (else p (else f k)) _ _ (next p (else f k) _ (leaf_is s b None c.is_binary.result (is_binary c.args.op) c.args.term (c.args.literal ∷ []) c.is_binary.ensures.is-of-the-binary-family c.in-default.ensures.asks-in-order) (next f k _ c.in-default-full.ensures.asks-for-a-node many.0)) in
-    record { answers-and-leaves-what-the-rules-give = e; reads-the-same-text = refl; is-a-step-of-every-run = λ ts ran. called (lay_binary c.args.op c.args.term c.args.literal) _ _ ran e }
+    let many = too_many b.literals c.store.new.literals new b.stored c.in-None.ensures.answers_the_end c.store.ensures.stores_all_or_nothing in
+    let e = ap (λ w. after (tables_of b.slots b.used w b.stored) (Err (refused R.LiteralsDontFit 0))) many.1 ∙ no b (else p (else f k)) _ _ (next p (else f k) _ (leaf_is s b None c.is_binary.result (is_binary c.args.op) c.args.term (c.args.literal ∷ []) c.is_binary.ensures.is_of_the_binary_family c.in_default.ensures.asks_in_order) (next f k _ c.in_default-full.ensures.asks_for_a_node many.0)) in
+    record { answers_and_leaves_what_the_rules_give = e; reads_the_same_text = refl; is_a_step_of_every_run = λ ts ran. called (lay_binary c.args.op c.args.term c.args.literal) _ _ ran e }

@@ -10,13 +10,13 @@ unfolding constant_after
 returns-in-Some g c =
     let s = setting g.T.Term.within c.args.self.now in
     let b = tables c.args.self.now in
-    let e = no b (barred s b) _ c.in-Some.e c.in-Some.ensures.names-the-lowest-unsound in
-    record { answers-and-leaves-what-the-rules-give = e; reads-the-same-text = refl; is-a-step-of-every-run = λ ts ran. called (lay_constant c.args.value) _ _ ran e }
+    let e = no b (barred s b) _ c.in-Some.e c.in-Some.ensures.names_the_lowest_unsound in
+    record { answers_and_leaves_what_the_rules_give = e; reads_the_same_text = refl; is_a_step_of_every_run = λ ts ran. called (lay_constant c.args.value) _ _ ran e }
 
 pub returns : goal.returns
 unfolding constant_after
 returns g c =
     let s = setting g.T.Term.within c.args.self.now in
     let b = tables c.args.self.now in
-    let e = yes' b (barred s b) _ _ c.in-default.ensures.names-the-lowest-unsound (ap (writing b) (c.lay-answer.ensures.lays-it ∙ ap (laying b.slots b.used) c.constant-node.ensures.is-the-constant)) in
-    record { answers-and-leaves-what-the-rules-give = e; reads-the-same-text = refl; is-a-step-of-every-run = λ ts ran. called (lay_constant c.args.value) _ _ ran e }
+    let e = yes' b (barred s b) _ _ c.in_default.ensures.names_the_lowest_unsound (ap (writing b) (c.lay-answer.ensures.lays_it ∙ ap (laying b.slots b.used) c.constant_node.ensures.is_the_constant)) in
+    record { answers_and_leaves_what_the_rules_give = e; reads_the_same_text = refl; is_a_step_of_every_run = λ ts ran. called (lay_constant c.args.value) _ _ ran e }

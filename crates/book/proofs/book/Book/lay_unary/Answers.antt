@@ -11,13 +11,13 @@ unfolding unary_after
 returns-in-Some g c =
     let s = setting g.T.Term.within c.args.self.now in
     let b = tables c.args.self.now in
-    let e = no b (barred_leaf s b (is_unary c.args.op) c.args.term []) _ c.in-Some.e (leaf_is s b (Some c.in-Some.e) c.is_unary.result (is_unary c.args.op) c.args.term [] c.is_unary.ensures.is-of-the-unary-family c.in-Some.ensures.asks-in-order) in
-    record { answers-and-leaves-what-the-rules-give = e; reads-the-same-text = refl; is-a-step-of-every-run = λ ts ran. called (lay_unary c.args.op c.args.term) _ _ ran e }
+    let e = no b (barred_leaf s b (is_unary c.args.op) c.args.term []) _ c.in-Some.e (leaf_is s b (Some c.in-Some.e) c.is_unary.result (is_unary c.args.op) c.args.term [] c.is_unary.ensures.is_of_the_unary_family c.in-Some.ensures.asks_in_order) in
+    record { answers_and_leaves_what_the_rules_give = e; reads_the_same_text = refl; is_a_step_of_every_run = λ ts ran. called (lay_unary c.args.op c.args.term) _ _ ran e }
 
 pub returns : goal.returns
 unfolding unary_after
 returns g c =
     let s = setting g.T.Term.within c.args.self.now in
     let b = tables c.args.self.now in
-    let e = yes' b (barred_leaf s b (is_unary c.args.op) c.args.term []) _ _ (leaf_is s b None c.is_unary.result (is_unary c.args.op) c.args.term [] c.is_unary.ensures.is-of-the-unary-family c.in-default.ensures.asks-in-order) (ap (writing b) c.lay-answer.ensures.lays-it) in
-    record { answers-and-leaves-what-the-rules-give = e; reads-the-same-text = refl; is-a-step-of-every-run = λ ts ran. called (lay_unary c.args.op c.args.term) _ _ ran e }
+    let e = yes' b (barred_leaf s b (is_unary c.args.op) c.args.term []) _ _ (leaf_is s b None c.is_unary.result (is_unary c.args.op) c.args.term [] c.is_unary.ensures.is_of_the_unary_family c.in_default.ensures.asks_in_order) (ap (writing b) c.lay-answer.ensures.lays_it) in
+    record { answers_and_leaves_what_the_rules_give = e; reads_the_same_text = refl; is_a_step_of_every_run = λ ts ran. called (lay_unary c.args.op c.args.term) _ _ ran e }

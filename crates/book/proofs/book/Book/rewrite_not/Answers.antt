@@ -13,14 +13,14 @@ unfolding rewrite_after
 returns-in-Some g c =
     let s = setting g.T.Term.within c.args.self.now in
     let b = tables c.args.self.now in
-    let e = no b (barred_one s b c.args.a) _ c.in-Some.e c.in-Some.ensures.asks-that-it-stands in
-    record { answers-and-leaves-what-the-rules-give = e; reads-the-same-text = refl; is-a-step-of-every-run = λ ts ran. called (ask_rewrite c.args.a) _ _ ran e }
+    let e = no b (barred_one s b c.args.a) _ c.in-Some.e c.in-Some.ensures.asks_that_it_stands in
+    record { answers_and_leaves_what_the_rules_give = e; reads_the_same_text = refl; is_a_step_of_every_run = λ ts ran. called (ask_rewrite c.args.a) _ _ ran e }
 
-pub rewrite-not-requires : goal.rewrite-not-requires
-rewrite-not-requires g c =
+pub rewrite_not-requires : goal.rewrite_not-requires
+rewrite_not-requires g c =
     let s = setting g.T.Term.within c.args.self.now in
     let b = tables c.args.self.now in
-    let o = one s b c.args.a c.in-default.ensures.asks-that-it-stands in
+    let o = one s b c.args.a c.in_default.ensures.asks_that_it_stands in
     free_whole b.slots b.used c.args.a o.free
 
 pub returns : goal.returns
@@ -28,6 +28,6 @@ unfolding rewrite_after
 returns g c =
     let s = setting g.T.Term.within c.args.self.now in
     let b = tables c.args.self.now in
-    let r = c.rewrite-not.ensures.answers-the-root in
-    let e = yes' b (barred_one s b c.args.a) _ _ c.in-default.ensures.asks-that-it-stands (ap₂ (λ y n. writing b (written y b.used (Ok n))) (c.rewrite-not.ensures.rewrites-it ∙ ap (λ n. marked n Standing (rewriting true (filter_at b.slots c.args.a) b.slots)) r) r) in
-    record { answers-and-leaves-what-the-rules-give = e; reads-the-same-text = refl; is-a-step-of-every-run = λ ts ran. called (ask_rewrite c.args.a) _ _ ran e }
+    let r = c.rewrite_not.ensures.answers_the_root in
+    let e = yes' b (barred_one s b c.args.a) _ _ c.in_default.ensures.asks_that_it_stands (ap₂ (λ y n. writing b (written y b.used (Ok n))) (c.rewrite_not.ensures.rewrites_it ∙ ap (λ n. marked n Standing (rewriting true (filter_at b.slots c.args.a) b.slots)) r) r) in
+    record { answers_and_leaves_what_the_rules_give = e; reads_the_same_text = refl; is_a_step_of_every_run = λ ts ran. called (ask_rewrite c.args.a) _ _ ran e }
