@@ -5,7 +5,7 @@ use lib.Dec.{eqb_refl}
 use borrow.Author.Tests.{eqb-false}
 use Rattle.filters.specs.Trees.{Tree}
 use Rattle.filters.specs.Runs.{Sheet, enter, take_out, from_one, from_two}
-use Rattle.filters.specs.Placed.{Form, Placed, constant_at, condition_at, and_node_at, or_node_at, not_node_at, root, tree, In, Apart, Sound, Holds}
+use Rattle.filters.specs.Placed.{Form, Placed, constant_at, condition_at, and_node_at, or_node_at, not_node_at, root, In, Apart, Sound, Holds}
 use Rattle.filters.proofs.Placed.{root_in, frame}
 use Rattle.ledger.specs.Law.{through}
 use Rattle.nodes.specs.declared.slots.Mark.TheVariants.{Standing as Stands, Joined, Struck}

@@ -475,11 +475,11 @@ module _ {T : Type 0} (s : Setting T) where
   stood_before : {run : List (Turn (Worded T))} {b : Tables T} → Ran s run b → (a n : ℕ) (ts : List (Turn (Worded T))) → run ≡ (record { call = call_rewrite a; answered = some n } ∷ ts) → (u : Tree (Worded T)) × (after_run (book opposite) ts a ≡ some u)
   stood_before (opened b eu es) a n ts e = let z : ◌≡◌ {A = ℕ} 0 1 = cc in absurd (omega arith)
   stood_before (bound c r ran) a n ts e =
-      let h : record { call = call_bind c; answered = r } ≡ record { call = call_rewrite a; answered = some n } = cc in
+      let h : ◌≡◌ {A = Turn (Worded T)} (record { call = call_bind c; answered = r }) (record { call = call_rewrite a; answered = some n }) = cc in
       let k : call_bind c ≡ call_rewrite a = ap (λ (t : Turn (Worded T)). t.call) h in
       let z : ◌≡◌ {A = ℕ} 0 1 = cc in absurd (omega arith)
   stood_before (called {ts = us} {b = b} asked b' answer ran d) a n ts e =
-      let h : record { call = told s.text asked; answered = answered answer } ≡ record { call = call_rewrite a; answered = some n } = cc in
+      let h : ◌≡◌ {A = Turn (Worded T)} (record { call = told s.text asked; answered = answered answer }) (record { call = call_rewrite a; answered = some n }) = cc in
       let et : us ≡ ts = cc in
       let ek = rewrote s.text asked a (ap (λ (t : Turn (Worded T)). t.call) h) in
       let fr = freed b b' answer a n (ap (λ (t : Turn (Worded T)). t.answered) h) (d ∙ ap (λ x. performed s x b) ek) in
