@@ -127,7 +127,7 @@ def respell(text, new, facts, rust=False):
 
 def clauses(text):
     """The spans of antt in a source file: ghost imports, clauses and ghost members."""
-    for m in re.finditer(r"ghost use [^;]*;|(?:requires|ensures|ghost)\*?(?: \w+)?:? \{|ghost use [^;]*;", text):
+    for m in re.finditer(r"ghost use [^;]*;|(?:requires|ensures|ghost)\*?(?: \w+)?:? \{", text):
         if m.group().endswith(";"):
             yield m.start(), m.end()
             continue
