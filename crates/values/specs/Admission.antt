@@ -1,18 +1,11 @@
 -- Which literals may be handed in.
 use Rattle.std.specs.Prelude.{ℕ, ◌+◌, Bool, cond, List, [], ◌∷◌, Some, None, Ok, Err, Option, Result}
-use Rattle.values.specs.declared.admission.Demand.{Demand}
-use Rattle.values.specs.declared.admission.Demand.TheVariants.{TextInside, WellKept}
 use Rattle.values.specs.declared.literals.Literal.{Literal}
 use Rattle.values.specs.declared.refusals.Reason.{Reason}
 use Rattle.values.specs.declared.refusals.Reason.TheVariants as R
 use Rattle.values.specs.declared.refusals.Refused.{Refused}
 use Rattle.values.specs.Contents.{text_inside}
 use Rattle.values.specs.Kept.{well_kept}
-
--- a literal meets a demand, beside so many bytes
-abbrev pub meets : ℕ → Demand → Literal → Bool
-meets n TextInside l = text_inside n l.value
-meets n WellKept l = well_kept l
 
 -- the index of the first literal that fails the test, the list's first having the index i
 abbrev pub first_failing : (Literal → Bool) → ℕ → List Literal → Option ℕ
@@ -29,8 +22,8 @@ unless (Some i) r next = refusal r i
 -- every text is looked at before any storage
 abbrev pub admitted : ℕ → List Literal → Result (Unit {0}) Refused
 admitted n ls =
-    unless (first_failing (meets n TextInside) 0 ls) R.TextOutside
-    (unless (first_failing (meets n WellKept) 0 ls) R.OtherStorage (Ok tt))
+    unless (first_failing (λ l. text_inside n l.value) 0 ls) R.TextOutside
+    (unless (first_failing well_kept 0 ls) R.OtherStorage (Ok tt))
 
 -- an answer where the literals are admitted
 abbrev pub if_admitted : {X : Type 0} → Result (Unit {0}) Refused → X → Result X Refused

@@ -1,6 +1,8 @@
 // The kinds of a column, and the storage that each is kept in.
 ghost use Rattle.std.specs.Prelude.{◌≡◌, Decides};
-ghost use Rattle.values.specs.Kinds.{storage_of, place_of, same_kind, same_family};
+ghost use Rattle.values.specs.Kinds.{storage_of, same_kind, same_family};
+
+use std::fmt;
 
 #[derive(Clone, Copy, PartialEq, Eq)]
 pub enum Kind {
@@ -22,7 +24,7 @@ pub enum Kind {
 }
 
 // How a value is kept in memory: several kinds share one.
-#[derive(Clone, Copy)]
+#[derive(Clone, Copy, PartialEq, Eq)]
 pub enum Storage {
     Boolean,
     Int,
@@ -62,32 +64,35 @@ impl Kind {
         self == other
     }
 
-    // The kind's place in the list above, the same for every fixed.
-    fn place(self) -> u8
-        ensures is_listed { result ≡ place_of self }
-    {
-        match self {
-            Kind::Boolean => 0,
-            Kind::Int => 1,
-            Kind::Date => 2,
-            Kind::Long => 3,
-            Kind::Time => 4,
-            Kind::Timestamp => 5,
-            Kind::Timestamptz => 6,
-            Kind::TimestampNs => 7,
-            Kind::TimestamptzNs => 8,
-            Kind::Float => 9,
-            Kind::Double => 10,
-            Kind::String => 11,
-            Kind::Fixed(_) => 12,
-            Kind::Binary => 13,
-        }
-    }
-
     // Whether the two are one kind, fixed lengths aside.
     pub fn same_family(self, other: Kind) -> bool
         ensures leaves_fixed_lengths_aside { result ≡ same_family self other }
     {
-        self.place() == other.place()
+        match (self, other) {
+            (Kind::Fixed(_), Kind::Fixed(_)) => true,
+            _ => self == other,
+        }
+    }
+}
+
+// The word that the kind is typed by.
+impl fmt::Display for Kind {
+    fn fmt<W: fmt::Write>(&self, f: &mut fmt::Formatter<W>) -> fmt::Result {
+        match self {
+            Kind::Boolean => f.write_str("boolean"),
+            Kind::Int => f.write_str("int"),
+            Kind::Date => f.write_str("date"),
+            Kind::Long => f.write_str("long"),
+            Kind::Time => f.write_str("time"),
+            Kind::Timestamp => f.write_str("timestamp"),
+            Kind::Timestamptz => f.write_str("timestamptz"),
+            Kind::TimestampNs => f.write_str("timestamp_ns"),
+            Kind::TimestamptzNs => f.write_str("timestamptz_ns"),
+            Kind::Float => f.write_str("float"),
+            Kind::Double => f.write_str("double"),
+            Kind::String => f.write_str("string"),
+            Kind::Fixed(len) => write!(f, "fixed({len})"),
+            Kind::Binary => f.write_str("binary"),
+        }
     }
 }

@@ -6,7 +6,7 @@ ghost use Rattle.values.specs.Kept.{kept_in, length_fits, well_kept, well_kept_d
 use crate::kinds::{Kind, Storage};
 
 // A place in lent bytes.
-#[derive(Clone, Copy)]
+#[derive(Clone, Copy, PartialEq, Eq)]
 pub struct Span {
     pub start: usize,
     pub len: usize,

@@ -2,7 +2,9 @@
 ghost use Rattle.std.specs.Prelude.{◌≡◌};
 ghost use Rattle.values.specs.Refusals.{number_of};
 
-#[derive(Clone, Copy)]
+use std::fmt;
+
+#[derive(Clone, Copy, PartialEq, Eq)]
 pub enum Reason {
     // the filter's writer
     NoFilter,
@@ -35,7 +37,7 @@ pub enum Reason {
 }
 
 // A refusal: why, and at which filter, literal, node or field.
-#[derive(Clone, Copy)]
+#[derive(Clone, Copy, PartialEq, Eq)]
 pub struct Refused {
     pub reason: Reason,
     pub place: usize,
@@ -70,6 +72,63 @@ impl Reason {
             Reason::OutsideRow => 21,
             Reason::NotMet => 22,
             Reason::VisitorFault { .. } => 23,
+        }
+    }
+
+    // The refusal for this reason at the place.
+    pub fn at(self, place: usize) -> Refused
+        ensures is_for_the_reason { result.reason ≡ self }
+        ensures is_at_the_place { result.place ≡ place }
+    {
+        Refused {
+            reason: self,
+            place,
+        }
+    }
+}
+
+// The name that docs/REFUSALS.md has for the reason.
+impl fmt::Display for Reason {
+    fn fmt<W: fmt::Write>(&self, f: &mut fmt::Formatter<W>) -> fmt::Result {
+        f.write_str(match self {
+            Reason::NoFilter => "no filter",
+            Reason::SameFilter => "same filter",
+            Reason::OtherFamily => "other family",
+            Reason::OtherStorage => "other storage",
+            Reason::TextOutside => "text outside",
+            Reason::NameNotFound => "name not found",
+            Reason::NameAmbiguous => "name ambiguous",
+            Reason::NoAccessor => "no accessor",
+            Reason::NotFloating => "not floating",
+            Reason::NotConvertible { .. } => "not convertible",
+            Reason::TextNotRead { .. } => "text not read",
+            Reason::NoNodeLeft => "no node left",
+            Reason::LiteralsDontFit => "literals don't fit",
+            Reason::BoundTablesTooSmall => "bound tables too small",
+            Reason::WorkingTableTooShort => "working table too short",
+            Reason::UnsoundTables => "unsound tables",
+            Reason::SchemaRuleBroken => "schema rule broken",
+            Reason::PlacePastGroup => "place past group",
+            Reason::NoGroup => "no group",
+            Reason::NoValue => "no value",
+            Reason::OutsideRow => "outside row",
+            Reason::NotMet => "not met",
+            Reason::VisitorFault { .. } => "visitor fault",
+        })
+    }
+}
+
+impl fmt::Display for Refused {
+    fn fmt<W: fmt::Write>(&self, f: &mut fmt::Formatter<W>) -> fmt::Result {
+        let Refused { reason, place } = *self;
+        let number = reason.number();
+        write!(f, "refused {number} ({reason}) at {place}")?;
+        match reason {
+            Reason::NotConvertible { literal } | Reason::TextNotRead { literal } => {
+                write!(f, ", literal {literal}")
+            }
+            Reason::VisitorFault { fault } => write!(f, ", fault {fault}"),
+            _ => Ok(()),
         }
     }
 }
