@@ -25,11 +25,7 @@ pub struct CellRow<'a> {
 fn row_cells(cells: &[Cell]) -> &[Cell]
     ensures are_the_first { result.now ≡ row_cells cells.now }
 {
-    if cells.len() > LIMIT {
-        &cells[0..LIMIT]
-    } else {
-        cells
-    }
+    &cells[..LIMIT.min(cells.len())]
 }
 
 // The cell that the places lead to from a cell, one place fewer at each call. A group is asked first whether it lies
@@ -40,20 +36,18 @@ fn follow(cells: &[Cell], cell: Cell, after: usize, places: &[u16]) -> Result<Ce
     let [place, rest @ ..] = places else {
         return Ok(cell);
     };
-    match cell {
-        Cell::Null | Cell::Value(_) | Cell::ListOrMap => Err(Reason::NoGroup),
-        Cell::Group { start, count } => {
-            if start < after || start > cells.len() || count > cells.len() - start {
-                return Err(Reason::OutsideRow);
-            }
-            let place = *place as usize;
-            if place >= count {
-                return Err(Reason::PlacePastGroup);
-            }
-            let at = start + place;
-            follow(cells, cells[at], at + 1, rest)
-        }
+    let Cell::Group { start, count } = cell else {
+        return Err(Reason::NoGroup);
+    };
+    if start < after || start > cells.len() || count > cells.len() - start {
+        return Err(Reason::OutsideRow);
     }
+    let place = usize::from(*place);
+    if place >= count {
+        return Err(Reason::PlacePastGroup);
+    }
+    let at = start + place;
+    follow(cells, cells[at], at + 1, rest)
 }
 
 // The answer at the cell that the places lead to.

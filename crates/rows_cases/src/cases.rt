@@ -17,15 +17,9 @@ fn textless(cells: &[Cell], top: usize) -> CellRow<'_> {
 
 // Whether each path is refused under the number.
 fn refuses<R: Row, const N: usize>(row: &R, paths: &[[u16; N]], number: u8) -> bool {
-    for path in paths {
-        match row.get(path, Kind::Int) {
-            Err(reason) if reason.number() == number => {}
-            _ => {
-                return false;
-            }
-        }
-    }
-    true
+    paths.iter().all(
+        |path| matches!(row.get(path, Kind::Int), Err(reason) if reason.number() == number),
+    )
 }
 
 fn is_absent<R: Row>(row: &R, path: &[u16]) -> bool {

@@ -1,5 +1,5 @@
-use Rattle.std.proofs.Common.{sym, take_all}
+use Rattle.std.proofs.lemmas.List.{take_min}
 use Rattle.rows.proofs.cell_row.row_cells.Goals as goal
 
-pub returns-else-cells-gt-LIMIT : goal.returns-else-cells-gt-LIMIT
-returns-else-cells-gt-LIMIT c = record { are_the_first = sym (take_all 1024 c.args.cells.now c.if-cells-gt-LIMIT.false) }
+pub returns : goal.returns
+returns c = record { are_the_first = rw c.min.ensures (take_min 1024 c.args.cells.now) }
