@@ -1,15 +1,17 @@
 // totalOrder and its equality, one text for both widths.
 ghost use Rattle.std.specs.Prelude.{◌≡◌, false, T, Decides, ◌==◌, is_nan, Float};
 ghost use Rattle.std.specs.declared.cmp.Ordering.TheVariants.{Equal};
-ghost use Rattle.std.specs.Float.Ieee.{lt, fits};
+ghost use Rattle.std.specs.Float.Ieee.{fits};
 ghost use Rattle.std.specs.Float.{is_sign_negative, Format};
-ghost use Rattle.floats.specs.TotalOrder.{placed, sign_order, Lawful};
+ghost use Rattle.std.specs.Ordering.{float_partial_cmp};
+ghost use Rattle.floats.specs.TotalOrder.{placed, Lawful};
 ghost use Rattle.floats.specs.Patterns.{rank, rank_order};
 
 use std::cmp::Ordering;
 
 // A binary floating type: its format, and the datum that a value of it is.
-pub trait Floating: Copy {
+// Each width calls its own two tests: of num_traits' `Float`, which has both, nothing says that a value fits the format.
+pub trait Floating: Copy + PartialOrd {
     ghost format: { Format };
 
     ghost datum: { Self → Float };
@@ -18,24 +20,12 @@ pub trait Floating: Copy {
         ensures tells { result ≡ is_nan (datum self) }
         ensures is_of_the_format { T (fits format (datum self)) };
 
-    // Whether the number is the lesser, where both are numbers and differ.
-    fn is_less(self, other: Self) -> bool
-        ensures tells { result ≡ lt (datum self) (datum other) };
-
     // Whether a number's sign is negative; a zero has one too.
     fn is_negative(self) -> bool
         ensures tells_of_a_number { is_nan (datum self) ≡ false → result ≡ is_sign_negative (datum self) };
-}
 
-// Where one of two equal numbers stands to the other: only zeros of two signs differ.
-fn by_sign(a_negative: bool, b_negative: bool) -> Ordering
-    ensures puts_the_negative_first { result ≡ sign_order a_negative b_negative }
-{
-    match (a_negative, b_negative) {
-        (true, false) => Ordering::Less,
-        (false, true) => Ordering::Greater,
-        _ => Ordering::Equal,
-    }
+    // Two numbers compare as their data do, and the not-a-number with nothing.
+    ghost compares_data: { (x y : Self) → Self.partial_cmp x y ≡ float_partial_cmp (datum x) (datum y) };
 }
 
 // Where `a` stands to `b`, by the tests of the standard's clauses.
@@ -43,19 +33,12 @@ fn place<F: Floating>(a: F, b: F) -> Ordering
     ensures is_total_order { result ≡ placed (F.datum a) (F.datum b) }
     ensures both_are_of_the_format { T (fits F.format (F.datum a)) × T (fits F.format (F.datum b)) }
 {
-    match (a.is_not_a_number(), b.is_not_a_number()) {
-        (true, true) => Ordering::Equal,
-        (true, false) => Ordering::Greater,
-        (false, true) => Ordering::Less,
-        (false, false) => {
-            if a.is_less(b) {
-                Ordering::Less
-            } else if b.is_less(a) {
-                Ordering::Greater
-            } else {
-                by_sign(a.is_negative(), b.is_negative())
-            }
-        }
+    // the not-a-number comes last
+    let by_being_none = a.is_not_a_number().cmp(&b.is_not_a_number());
+    match a.partial_cmp(&b) {
+        // of equal numbers only the zeros differ, by their signs
+        Some(standing) => standing.then(b.is_negative().cmp(&a.is_negative())),
+        None => by_being_none,
     }
 }
 
@@ -68,20 +51,11 @@ pub fn total_cmp<F: Floating>(a: F, b: F) -> Ordering
     place(a, b)
 }
 
-fn is_level(standing: Ordering) -> bool
-    ensures tells_equal { Decides result (standing ≡ Equal) }
-{
-    match standing {
-        Ordering::Equal => true,
-        Ordering::Less | Ordering::Greater => false,
-    }
-}
-
 // Whether totalOrder puts neither first.
 pub fn same<F: Floating>(a: F, b: F) -> bool
     ensures puts_neither_first { Decides result (placed (F.datum a) (F.datum b) ≡ Equal) }
     ensures is_of_one_datum { Decides result (F.datum a ≡ F.datum b) }
     ensures compares_bit_patterns { result ≡ (rank F.format (F.datum a) == rank F.format (F.datum b)) }
 {
-    is_level(place(a, b))
+    place(a, b).is_eq()
 }

@@ -1,4 +1,5 @@
 use Rattle.std.proofs.Common.{◌≡◌, true, Equal, sym, ap, ◌∙◌}
+use Rattle.std.specs.Cmp.{Equal-is}
 use Rattle.floats.specs.Patterns.{rank}
 use Rattle.floats.specs.TotalOrder.{placed}
 use Rattle.floats.proofs.Ranks.{level_is_one, level_self, decided}
@@ -13,9 +14,9 @@ returns g c =
     let p = fit.0 in
     let q = fit.1 in
     let standing = c.place.ensures.is_total_order in
-    let test = c.is_level.ensures.tells_equal in
-    let level-of = λ (h : c.is_level.result ≡ true). sym standing ∙ test.0 h in
-    let test_of = λ (h : placed x y ≡ Equal). test.1 (standing ∙ h) in
+    let test = Equal-is c.place.result in
+    let level-of = λ (h : c.is_eq.result ≡ true). sym standing ∙ test.0 (sym c.is_eq.ensures ∙ h) in
+    let test_of = λ (h : placed x y ≡ Equal). c.is_eq.ensures ∙ test.1 (standing ∙ h) in
     record {
       puts_neither_first = (level-of, test_of);
       is_of_one_datum = (λ h. level_is_one f x y p q (level-of h), λ e. test_of (level_self f x y p q (ap (rank f) e)));
