@@ -1,5 +1,5 @@
 -- The order and the equality of values, from those of their contents.
-use Rattle.std.proofs.Common.{◌≡◌, ℕ, ◌-◌, min, Bool, true, false, cond, ◌&&◌, eqb, ltb, Some, None, Decides, Option, Ordering, Less, Equal, sym, refl, ap, ◌∙◌, subst, inl, inr, arith}
+use Rattle.std.proofs.Common.{◌≡◌, ℕ, ◌-◌, min, Bool, true, false, cond, ◌&&◌, eqb, ltb, Some, None, Option, Ordering, Less, Equal, sym, refl, ap, ◌∙◌, subst, inl, inr, arith}
 use Rattle.std.proofs.lemmas.Bool.Decides.{nat_tests}
 use Rattle.std.proofs.lemmas.Bool.{and_parts, and_from, eqb-true, eq-eqb}
 use Rattle.values.specs.declared.kinds.Kind.{Kind}
@@ -9,9 +9,9 @@ use Rattle.values.specs.Kinds.{storage_of, place_of, same_family}
 use Rattle.values.specs.Contents.{Content, number, bytes, above_max, below_min, Datum}
 use Rattle.values.specs.Kept.{code_of, numeric_code, textual_code, kept_in}
 use Rattle.comparison.specs.Orders.{number_order, byte_order, content_order, in_storage, comparable, compared}
-use Rattle.comparison.specs.Equality.{same_content}
+use Rattle.comparison.specs.Equal.{no_way}
 use Rattle.comparison.specs.Laws.{turned_answer, NotAfter, Ordered}
-use Rattle.comparison.proofs.Contents.{when, no_way, numeric_low, textual_high, content_turns, content_equal, content_same, Forward, then, content_joins, content_tells}
+use Rattle.comparison.proofs.Contents.{when, numeric_low, textual_high, content_turns, content_equal, content_same, Forward, then, content_joins}
 
 -- ---- one kind, one storage
 
@@ -135,18 +135,3 @@ ordered a b =
     onward c (inl h) (inr k) = inl (joins a b c Less Equal h k tt tt)
     onward c (inr h) (inl k) = inl (joins a b c Equal Less h k tt tt)
     onward c (inr h) (inr k) = inr (joins a b c Equal Equal h k tt tt)
-
--- ---- equality
-
-pub with_kinds : (p x r : Bool) → true ≡ p → r ≡ x → r ≡ (p && x)
-with_kinds p x r h e = e ∙ ap (λ (b : Bool). b && x) h
-
--- with the kinds one, the contents decide
-pub by_contents : (a b : Datum) (r : Bool) → a.kind ≡ b.kind → r ≡ same_content a.content b.content → Decides r (a ≡ b)
-by_contents a b r e h = (
-  λ t. made ((content_tells a.content b.content).0 (sym h ∙ t)),
-  λ p. h ∙ (content_tells a.content b.content).1 (ap (λ (d : Datum). d.content) p),
-)
-  where
-    made : a.content ≡ b.content → a ≡ b
-    made c = λ i. record { kind = e i; content = c i }

@@ -1,13 +1,15 @@
 -- The order and the equality of contents, from those of numbers and of bytes.
-use Rattle.std.proofs.Common.{◌≡◌, ℕ, ◌<◌, ◌≤◌, Bool, true, false, cond, eqb, ℤ, pos, negsuc, Some, None, Decides, Option, Ordering, Less, Equal, Greater, sym, refl, ap, ◌∙◌, subst, true≢false, arith, lit<, lit≤}
+use Rattle.std.proofs.Common.{◌≡◌, ℕ, ◌<◌, ◌≤◌, Bool, true, false, cond, ◌&&◌, eqb, Some, None, Option, Ordering, Less, Equal, Greater, sym, refl, ap, ◌∙◌, subst, arith, lit<, lit≤}
 use Rattle.std.proofs.lemmas.Bool.Decides.{nat_tests}
-use Rattle.std.proofs.lemmas.Bool.{and_parts, and_from, eqb-true, eq-eqb}
-use Rattle.std.proofs.lemmas.Slice.Eq.{bytes_eq-Decides}
+use Rattle.std.proofs.lemmas.Bool.{eqb-true, eq-eqb}
+use Rattle.std.specs.Cmp.{both_ways, Equal-is}
+use Rattle.std.specs.Ordering.{is_eq}
 use Rattle.std.specs.Str.{bytes_eq}
 use Rattle.values.specs.Contents.{Numeric, boolean, int, long, float, double, Textual, string, binary, Content, number, bytes, above_max, below_min}
 use Rattle.values.specs.Kept.{numeric_code, textual_code}
 use Rattle.comparison.specs.Orders.{number_order, byte_order, content_order}
-use Rattle.comparison.specs.Equality.{same_number, same_content}
+use Rattle.comparison.specs.Equality.{same_number, same_extreme, same_content}
+use Rattle.comparison.specs.Equal.{one-numeric, one_textual, content_tells}
 use Rattle.comparison.specs.Laws.{turned, turned_answer}
 use Rattle.comparison.proofs.Lawful.{Lawful, numbers, byte_lists}
 
@@ -24,25 +26,6 @@ some_injective : {A : Type 0} (x y : A) → Some x ≡ Some y → x ≡ y
 some_injective x y h = cc
 
 -- ---- the codes tell the storages
-
-abbrev numeric_at : ℕ → Numeric
-numeric_at n = cond (eqb n 0) boolean (cond (eqb n 1) int (cond (eqb n 2) long (cond (eqb n 3) float double)))
-
-numeric-told : (s : Numeric) → numeric_at (numeric_code s) ≡ s
-numeric-told boolean = refl
-numeric-told int = refl
-numeric-told long = refl
-numeric-told float = refl
-numeric-told double = refl
-
-one-numeric : (s r : Numeric) → numeric_code s ≡ numeric_code r → s ≡ r
-one-numeric s r e = sym (numeric-told s) ∙ ap numeric_at e ∙ numeric-told r
-
-one_textual : (s r : Textual) → textual_code s ≡ textual_code r → s ≡ r
-one_textual string string e = refl
-one_textual string binary e = absurd (omega arith)
-one_textual binary string e = absurd (omega arith)
-one_textual binary binary e = refl
 
 pub numeric_low : (s : Numeric) → numeric_code s < 5
 numeric_low boolean = lit< tt
@@ -158,44 +141,31 @@ content_joins (bytes s a) below_min z o p g h u v = no_answer o g
 content_joins above_max y z o p g h u v = no_answer o g
 content_joins below_min y z o p g h u v = no_answer o g
 
--- ---- the test of equality
+-- ---- equality, from the order
 
-pub no_way : {X : Type 0} → false ≡ true → X
-no_way h = absurd (true≢false (sym h))
+pub compared_tells : (x y : Content) (o : Ordering) → content_order x y ≡ Some o → is_eq o ≡ same_content x y
+compared_tells x y o h = both_ways _ _
+    (λ e. (content_tells x y).1 (content_equal x y (h ∙ ap Some ((Equal-is o).0 e))))
+    (λ e. (Equal-is o).1 (content_same x o (subst (λ (z : Content). content_order x z ≡ Some o) (sym ((content_tells x y).0 e)) h)))
 
-number_tells : (a b : ℤ) → Decides (same_number a b) (a ≡ b)
-number_tells (pos a) (pos b) = (λ h. ap pos (eqb-true a b h), λ e. eq-eqb a b (cc))
-number_tells (pos a) (negsuc b) = (no_way, λ e. let z : ◌≡◌ {A = ℕ} 0 1 = cc in absurd (omega arith))
-number_tells (negsuc a) (pos b) = (no_way, λ e. let z : ◌≡◌ {A = ℕ} 0 1 = cc in absurd (omega arith))
-number_tells (negsuc a) (negsuc b) = (λ h. ap negsuc (eqb-true a b h), λ e. eq-eqb a b (cc))
+apart : (b r : Bool) (o : Ordering) → cond b (Some o) None ≡ None → false ≡ (b && r)
+apart true r o h = absurd (cc)
+apart false r o h = refl
 
-content_itself : (x : Content) → same_content x x ≡ true
-content_itself (number s m) = and_from (eqb (numeric_code s) (numeric_code s)) (same_number m m) (eq-eqb _ _ refl) ((number_tells m m).1 refl)
-content_itself (bytes s a) = and_from (eqb (textual_code s) (textual_code s)) (bytes_eq a a) (eq-eqb _ _ refl) ((bytes_eq-Decides a a).1 refl)
-content_itself above_max = refl
-content_itself below_min = refl
-
-content-one : (x y : Content) → same_content x y ≡ true → x ≡ y
-content-one (number s m) (number r n) h =
-    let w = and_parts (eqb (numeric_code s) (numeric_code r)) (same_number m n) h in
-    ap (λ (c : Numeric). number c m) (one-numeric s r (eqb-true _ _ w.0)) ∙ ap (number r) ((number_tells m n).0 w.1)
-content-one (number s m) (bytes r b) h = no_way h
-content-one (number s m) above_max h = no_way h
-content-one (number s m) below_min h = no_way h
-content-one (bytes s a) (number r n) h = no_way h
-content-one (bytes s a) (bytes r b) h =
-    let w = and_parts (eqb (textual_code s) (textual_code r)) (bytes_eq a b) h in
-    ap (λ (c : Textual). bytes c a) (one_textual s r (eqb-true _ _ w.0)) ∙ ap (bytes r) ((bytes_eq-Decides a b).0 w.1)
-content-one (bytes s a) above_max h = no_way h
-content-one (bytes s a) below_min h = no_way h
-content-one above_max (number r n) h = no_way h
-content-one above_max (bytes r b) h = no_way h
-content-one above_max above_max h = refl
-content-one above_max below_min h = no_way h
-content-one below_min (number r n) h = no_way h
-content-one below_min (bytes r b) h = no_way h
-content-one below_min above_max h = no_way h
-content-one below_min below_min h = refl
-
-pub content_tells : (x y : Content) → Decides (same_content x y) (x ≡ y)
-content_tells x y = (content-one x y, λ e. subst (λ (z : Content). same_content x z ≡ true) e (content_itself x))
+pub not_compared_tells : (x y : Content) → content_order x y ≡ None → same_extreme x y ≡ same_content x y
+not_compared_tells (number s m) (number r n) h = apart (eqb (numeric_code s) (numeric_code r)) (same_number m n) (number_order m n) h
+not_compared_tells (number s m) (bytes r b) h = refl
+not_compared_tells (number s m) above_max h = refl
+not_compared_tells (number s m) below_min h = refl
+not_compared_tells (bytes s a) (number r n) h = refl
+not_compared_tells (bytes s a) (bytes r b) h = apart (eqb (textual_code s) (textual_code r)) (bytes_eq a b) (byte_order a b) h
+not_compared_tells (bytes s a) above_max h = refl
+not_compared_tells (bytes s a) below_min h = refl
+not_compared_tells above_max (number r n) h = refl
+not_compared_tells above_max (bytes r b) h = refl
+not_compared_tells above_max above_max h = refl
+not_compared_tells above_max below_min h = refl
+not_compared_tells below_min (number r n) h = refl
+not_compared_tells below_min (bytes r b) h = refl
+not_compared_tells below_min above_max h = refl
+not_compared_tells below_min below_min h = refl

@@ -1,5 +1,5 @@
 -- When two values are equal, as a test that computes; it is proved to tell equal data.
-use Rattle.std.specs.Prelude.{ℕ, Bool, true, false, ◌&&◌, List, ℤ, pos, negsuc, ◌==◌}
+use Rattle.std.specs.Prelude.{ℕ, Bool, true, false, ◌&&◌, ◌||◌, List, ℤ, pos, negsuc, ◌==◌}
 use Rattle.std.specs.Str.{bytes_eq}
 use Rattle.values.specs.Contents.{Numeric, Textual, Content, number, bytes, above_max, below_min, Datum}
 use Rattle.values.specs.Kinds.{same_kind}
@@ -40,6 +40,10 @@ same_content (number s m) c = is_number s m c
 same_content (bytes s a) c = is_bytes s a c
 same_content above_max c = is_above_max c
 same_content below_min c = is_below_min c
+
+-- both above every value, or both below
+abbrev pub same_extreme : Content → Content → Bool
+same_extreme a b = (is_above_max a && is_above_max b) || (is_below_min a && is_below_min b)
 
 -- kind, storage and content agree
 abbrev pub same_datum : Datum → Datum → Bool

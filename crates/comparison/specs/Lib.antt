@@ -1,3 +1,4 @@
 pub mod Orders
 pub mod Equality
 pub mod Laws
+pub mod Equal

@@ -5,7 +5,7 @@ ghost use Rattle.values.specs.Contents.{datum_of};
 ghost use Rattle.comparison.specs.Orders.{compared};
 ghost use Rattle.comparison.specs.Equality.{same_datum};
 
-use crate::data::{partial_cmp, same};
+use crate::data::Datum;
 use std::cmp::Ordering;
 use values::admission::admit;
 use values::literals::Literal;
@@ -16,7 +16,7 @@ pub fn equal(a: Literal, b: Literal, text: &[u8]) -> Result<bool, Refused>
     ensures refuses_or_compares { result ≡ if_admitted (admitted (length text.now) (a ∷ b ∷ [])) (same_datum (datum_of text.now a) (datum_of text.now b)) }
 {
     admit(&[a, b], text.len())?;
-    Ok(same(&a, text, &b, text))
+    Ok(Datum::new(a, text) == Datum::new(b, text))
 }
 
 // Where `a` stands to `b`, if the two compare.
@@ -24,5 +24,5 @@ pub fn compare(a: Literal, b: Literal, text: &[u8]) -> Result<Option<Ordering>, 
     ensures refuses_or_compares { result ≡ if_admitted (admitted (length text.now) (a ∷ b ∷ [])) (compared (datum_of text.now a) (datum_of text.now b)) }
 {
     admit(&[a, b], text.len())?;
-    Ok(partial_cmp(&a, text, &b, text))
+    Ok(Datum::new(a, text).partial_cmp(&Datum::new(b, text)))
 }

@@ -1,74 +1,115 @@
-// Literals compared, for order and for equality, each with the bytes that its text lies in.
-ghost use Rattle.std.specs.Prelude.{◌≡◌, ℕ, List, Decides};
-ghost use Rattle.values.specs.Contents.{content_of, datum_of};
-ghost use Rattle.comparison.specs.Orders.{content_order, comparable, compared};
-ghost use Rattle.comparison.specs.Equality.{same_content, same_datum};
+// Values compared, for order and for equality, wherever their text lies.
+ghost use Rattle.std.specs.Prelude.{◌≡◌, Decides};
+ghost use Rattle.values.specs.Contents.{Datum as Held, datum_of};
+ghost use Rattle.comparison.specs.Orders.{content_order, in_storage, comparable, compared};
+ghost use Rattle.comparison.specs.Equality.{same_extreme, same_content, same_datum};
 ghost use Rattle.comparison.specs.Laws.{Ordered};
+ghost use Rattle.comparison.specs.Equal.{datum_per, datum_equivalence};
 
-use crate::bytes::{compare_bytes, same_bytes};
-use floats::order::{same as same_float, total_cmp};
+use floats::order::total_cmp;
 use std::cmp::Ordering;
+use std::marker::Model;
 use values::literals::{Literal, Value};
 
-fn compare_values(a: Value, a_text: &[u8], b: Value, b_text: &[u8]) -> Option<Ordering>
-    ensures goes_by_content { result ≡ content_order (content_of a_text.now a) (content_of b_text.now b) }
-{
-    match (a, b) {
-        (Value::Boolean(x), Value::Boolean(y)) => Some(x.cmp(&y)),
-        (Value::Int(x), Value::Int(y)) => Some(x.cmp(&y)),
-        (Value::Long(x), Value::Long(y)) => Some(x.cmp(&y)),
-        (Value::Float(x), Value::Float(y)) => Some(total_cmp(x, y)),
-        (Value::Double(x), Value::Double(y)) => Some(total_cmp(x, y)),
-        (Value::String(x), Value::String(y)) | (Value::Binary(x), Value::Binary(y)) => {
-            Some(compare_bytes(x.of(a_text), y.of(b_text)))
+// A literal with the bytes that its text lies in: what it holds is its kind and its content.
+#[derive(Drop)]
+pub struct Datum<'a> {
+    literal: Literal,
+    text: &'a [u8],
+}
+
+impl<'a> Model for Datum<'a> {
+    ghost Value = { Held };
+
+    ghost view = { λ d. datum_of d.text.now d.literal };
+}
+
+impl<'a> Datum<'a> {
+    pub fn new(literal: Literal, text: &'a [u8]) -> Datum<'a>
+        ensures holds_the_literal { result ≡ datum_of text.now literal }
+    {
+        Datum { literal, text }
+    }
+
+    fn is_in_storage(&self) -> bool
+        ensures asks_the_kinds_storage { result ≡ in_storage self.now }
+    {
+        self.literal.value.is_kept_in(self.literal.kind.storage())
+    }
+
+    // Whether the two are of one kind, fixed lengths aside, and both in its storage.
+    fn is_comparable(&self, other: &Datum) -> bool
+        ensures asks_kind_and_storage { result ≡ comparable self.now other.now }
+    {
+        self.literal.kind.same_family(other.literal.kind)
+            && self.is_in_storage()
+            && other.is_in_storage()
+    }
+
+    #[tactic(auto, using(crate::proofs::ByteOrders::first_difference))]
+    fn content_cmp(&self, other: &Datum) -> Option<Ordering>
+        ensures goes_by_content { result ≡ content_order self.now.content other.now.content }
+    {
+        match (self.literal.value, other.literal.value) {
+            (Value::Boolean(x), Value::Boolean(y)) => Some(x.cmp(&y)),
+            (Value::Int(x), Value::Int(y)) => Some(x.cmp(&y)),
+            (Value::Long(x), Value::Long(y)) => Some(x.cmp(&y)),
+            (Value::Float(x), Value::Float(y)) => Some(total_cmp(x, y)),
+            (Value::Double(x), Value::Double(y)) => Some(total_cmp(x, y)),
+            (Value::String(x), Value::String(y)) | (Value::Binary(x), Value::Binary(y)) => {
+                Some(x.of(self.text).cmp(&y.of(other.text)))
+            }
+            _ => None,
         }
-        _ => None,
     }
-}
 
-// Whether the two are of one kind, fixed lengths aside, and both in its storage.
-fn are_comparable(a: &Literal, b: &Literal) -> bool
-    ensures asks_kind_and_storage { (s t : List ℕ) → result ≡ comparable (datum_of s a.now) (datum_of t b.now) }
-{
-    a.kind.same_family(b.kind)
-        && a.value.is_kept_in(a.kind.storage())
-        && b.value.is_kept_in(b.kind.storage())
-}
-
-// Where `a` stands to `b`, if the two are comparable.
-pub fn partial_cmp(a: &Literal, a_text: &[u8], b: &Literal, b_text: &[u8]) -> Option<Ordering>
-    ensures goes_by_content { result ≡ compared (datum_of a_text.now a.now) (datum_of b_text.now b.now) }
-    ensures is_an_order { Ordered (datum_of a_text.now a.now) (datum_of b_text.now b.now) }
-{
-    if are_comparable(a, b) {
-        compare_values(a.value, a_text, b.value, b_text)
-    } else {
-        None
+    // Whether both are beyond every value, on one side.
+    fn is_same_extreme(&self, other: &Datum) -> bool
+        ensures asks_the_case { result ≡ same_extreme self.now.content other.now.content }
+    {
+        matches!(
+            (self.literal.value, other.literal.value),
+            (Value::AboveMax, Value::AboveMax) | (Value::BelowMin, Value::BelowMin)
+        )
     }
-}
 
-fn same_values(a: Value, a_text: &[u8], b: Value, b_text: &[u8]) -> bool
-    ensures compares_contents { result ≡ same_content (content_of a_text.now a) (content_of b_text.now b) }
-{
-    match (a, b) {
-        (Value::Boolean(x), Value::Boolean(y)) => x == y,
-        (Value::Int(x), Value::Int(y)) => x == y,
-        (Value::Long(x), Value::Long(y)) => x == y,
-        (Value::Float(x), Value::Float(y)) => same_float(x, y),
-        (Value::Double(x), Value::Double(y)) => same_float(x, y),
-        (Value::String(x), Value::String(y)) | (Value::Binary(x), Value::Binary(y)) => {
-            same_bytes(x.of(a_text), y.of(b_text))
+    // Whether the contents agree.
+    fn same_content(&self, other: &Datum) -> bool
+        ensures compares_contents { result ≡ same_content self.now.content other.now.content }
+    {
+        match self.content_cmp(other) {
+            Some(standing) => standing.is_eq(),
+            None => self.is_same_extreme(other),
         }
-        (Value::AboveMax, Value::AboveMax) => true,
-        (Value::BelowMin, Value::BelowMin) => true,
-        _ => false,
+    }
+
+    // Where the value stands to the other, if the two are comparable.
+    // No `PartialOrd`, which asks "level" exactly of equals: an extreme compares with nothing, fixeds of two lengths may be level.
+    pub fn partial_cmp(&self, other: &Datum) -> Option<Ordering>
+        ensures goes_by_content { result ≡ compared self.now other.now }
+        ensures is_an_order { Ordered self.now other.now }
+    {
+        if self.is_comparable(other) {
+            self.content_cmp(other)
+        } else {
+            None
+        }
     }
 }
 
-// Whether kind, storage and content agree.
-pub fn same(a: &Literal, a_text: &[u8], b: &Literal, b_text: &[u8]) -> bool
-    ensures compares_kind_and_content { result ≡ same_datum (datum_of a_text.now a.now) (datum_of b_text.now b.now) }
-    ensures tells_equal_data { Decides result (datum_of a_text.now a.now ≡ datum_of b_text.now b.now) }
-{
-    a.kind.is(b.kind) && same_values(a.value, a_text, b.value, b_text)
+impl<'a> PartialEq for Datum<'a> {
+    ghost eq = { same_datum };
+
+    ghost laws = { datum_per };
+
+    fn eq(&self, other: &Datum<'a>) -> bool
+        ensures compares_kind_and_content { result ≡ same_datum self.now other.now }
+        ensures tells_equal_data { Decides result (self.now ≡ other.now) }
+    {
+        self.literal.kind.is(other.literal.kind) && self.same_content(other)
+    }
+}
+
+impl<'a> Eq for Datum<'a> {
+    ghost laws = { datum_equivalence };
 }

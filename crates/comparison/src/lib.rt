@@ -1,6 +1,5 @@
 //! When two values are equal, and which comes first.
 #![tactic(auto)]
 
-pub mod bytes;
 pub mod checked;
 pub mod data;
