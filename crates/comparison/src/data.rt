@@ -6,8 +6,10 @@ ghost use Rattle.comparison.specs.Equality.{same_extreme, same_content, same_dat
 ghost use Rattle.comparison.specs.Laws.{Ordered};
 ghost use Rattle.comparison.specs.Equal.{datum_per, datum_equivalence};
 
+use crate::text::Text;
 use floats::order::total_cmp;
 use std::cmp::Ordering;
+use std::fmt;
 use std::marker::Model;
 use values::literals::{Literal, Value};
 
@@ -112,4 +114,24 @@ impl<'a> PartialEq for Datum<'a> {
 
 impl<'a> Eq for Datum<'a> {
     ghost laws = { datum_equivalence };
+}
+
+// The value in plain words.
+impl fmt::Display for Datum<'_> {
+    fn fmt<W: fmt::Write>(&self, f: &mut fmt::Formatter<W>) -> fmt::Result {
+        let kind = self.literal.kind;
+        match self.literal.value {
+            Value::Boolean(truth) => write!(f, "{kind} {truth}"),
+            Value::Int(number) => write!(f, "{kind} {number}"),
+            Value::Long(number) => write!(f, "{kind} {number}"),
+            Value::Float(number) => write!(f, "{kind} {number}"),
+            Value::Double(number) => write!(f, "{kind} {number}"),
+            Value::String(span) | Value::Binary(span) => {
+                let text = Text(span.of(self.text));
+                write!(f, "{kind} \"{text}\"")
+            }
+            Value::AboveMax => write!(f, "above every {kind}"),
+            Value::BelowMin => write!(f, "below every {kind}"),
+        }
+    }
 }

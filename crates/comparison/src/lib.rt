@@ -3,3 +3,4 @@
 
 pub mod checked;
 pub mod data;
+pub mod text;
