@@ -1,46 +1,17 @@
 -- The laws of conversion.
-use Rattle.std.proofs.Common.{◌≡◌, ℕ, Bool, true, false, cond, eqb, ◌⊎◌, List, ℤ, pos, negsuc, ◌≤ℤ◌, ◌<ℤ◌, Ok, Err, Result, sym, refl, ap, ◌∙◌, subst, inl, inr, true≢false, arith}
+use Rattle.std.proofs.Common.{◌≡◌, ℕ, Bool, true, false, cond, ◌⊎◌, List, ℤ, pos, negsuc, ◌≤ℤ◌, ◌<ℤ◌, Ok, Err, Result, sym, refl, ap, ◌∙◌, subst, inl, inr, true≢false, arith}
 use lib.Signed.{lt_z}
 use Rattle.std.proofs.lemmas.Int.{ints}
-use Rattle.std.proofs.lemmas.Bool.{and_parts, and_from, eqb-true, eq-eqb}
 use Rattle.values.specs.declared.kinds.Kind.{Kind}
 use Rattle.values.specs.declared.kinds.Kind.TheVariants as K
-use Rattle.values.specs.Kinds.{place_of, length_of, same_kind}
+use Rattle.values.specs.Kinds.{same_kind}
 use Rattle.values.specs.Contents.{boolean, int, long, float, double, string, binary, Content, number, bytes, above_max, below_min, Datum}
 use Rattle.values.specs.Kept.{well_kept_datum}
+use Rattle.values.proofs.KindsTold.{one_kind, kind_itself}
 use Rattle.conversion.specs.declared.convert.Misfit.{Misfit}
 use Rattle.conversion.specs.declared.convert.Misfit.TheVariants.{NotConvertible, TextNotRead}
 use Rattle.conversion.specs.Table.{Rule, stays, as_is, narrows, stamps, unread, table, kept, narrowed, micros, stamped, stamp_at, apply, by_content, converted}
 use Rattle.conversion.specs.Laws.{datum, Extreme, Floored, Narrowed, CountsNanos, CountsMicros, Conversion}
-
--- ---- a kind is told by its place and its length
-
-abbrev kind_at : ℕ → ℕ → Kind
-kind_at p w = cond (eqb p 0) K.Boolean (cond (eqb p 1) K.Int (cond (eqb p 2) K.Date (cond (eqb p 3) K.Long (cond (eqb p 4) K.Time (cond (eqb p 5) K.Timestamp (cond (eqb p 6) K.Timestamptz (cond (eqb p 7) K.TimestampNs (cond (eqb p 8) K.TimestamptzNs (cond (eqb p 9) K.Float (cond (eqb p 10) K.Double (cond (eqb p 11) K.String (cond (eqb p 12) (K.Fixed w) K.Binary))))))))))))
-
-told : (k : Kind) → kind_at (place_of k) (length_of k) ≡ k
-told K.Boolean = refl
-told K.Int = refl
-told K.Date = refl
-told K.Long = refl
-told K.Time = refl
-told K.Timestamp = refl
-told K.Timestamptz = refl
-told K.TimestampNs = refl
-told K.TimestamptzNs = refl
-told K.Float = refl
-told K.Double = refl
-told K.String = refl
-told (K.Fixed w) = refl
-told K.Binary = refl
-
-one_kind : (a b : Kind) → same_kind a b ≡ true → a ≡ b
-one_kind a b h =
-    let p = and_parts (eqb (place_of a) (place_of b)) (eqb (length_of a) (length_of b)) h in
-    sym (told a) ∙ ap (λ (n : ℕ). kind_at n (length_of a)) (eqb-true _ _ p.0) ∙ ap (kind_at (place_of b)) (eqb-true _ _ p.1) ∙ told b
-
-kind_itself : (k : Kind) → same_kind k k ≡ true
-kind_itself k = and_from (eqb (place_of k) (place_of k)) (eqb (length_of k) (length_of k)) (eq-eqb _ _ refl) (eq-eqb _ _ refl)
 
 -- ---- what is kept
 

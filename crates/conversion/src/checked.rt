@@ -16,11 +16,5 @@ pub fn convert_alone(literal: Literal, to: Kind, text: &[u8]) -> Result<Literal,
     ensures refuses_or_converts { read_answer text.now result ≡ answer (admitted (length text.now) (literal ∷ [])) (converted (datum_of text.now literal) to) }
 {
     admit(&[literal], text.len())?;
-    match convert(literal, to) {
-        Ok(converted) => Ok(converted),
-        Err(misfit) => Err(Refused {
-            reason: misfit.at(0),
-            place: 0,
-        }),
-    }
+    convert(literal, to).map_err(|misfit| misfit.at(0).at(0))
 }

@@ -1,7 +1,7 @@
 // Conversion by the table of storages and kinds.
 ghost use Rattle.std.specs.Prelude.{◌≡◌, ℕ, List};
 ghost use Rattle.values.specs.Contents.{content_of, datum_of};
-ghost use Rattle.conversion.specs.Table.{micros, narrowed, stamped, kept, converted_int, converted_long, converted_string, converted};
+ghost use Rattle.conversion.specs.Table.{micros, narrowed, stamped, converted};
 ghost use Rattle.conversion.specs.Misfits.{reason_of, read};
 ghost use Rattle.conversion.specs.Laws.{Conversion};
 
@@ -41,12 +41,10 @@ fn to_micros(nanos: i64) -> i64
 fn to_int(n: i64) -> Value
     ensures narrows { (t : List ℕ) → content_of t result ≡ narrowed n }
 {
-    if n > 2147483647 {
-        Value::AboveMax
-    } else if n < -2147483648 {
-        Value::BelowMin
-    } else {
-        Value::Int(n as i32)
+    match i32::try_from(n) {
+        Ok(int) => Value::Int(int),
+        Err(_) if n < 0 => Value::BelowMin,
+        Err(_) => Value::AboveMax,
     }
 }
 
@@ -61,75 +59,26 @@ fn to_stamp(from: Kind, n: i64) -> Result<i64, Misfit>
     }
 }
 
-// A literal of the column's own kind and fixed length.
-fn keep(literal: Literal, to: Kind) -> Result<Literal, Misfit>
-    ensures keeps_its_own_kind { (t : List ℕ) → read t result ≡ kept (datum_of t literal) to }
-{
-    if literal.kind.is(to) {
-        Ok(literal)
-    } else {
-        Err(Misfit::NotConvertible)
-    }
-}
-
-fn from_int(literal: Literal, n: i32, to: Kind) -> Result<Literal, Misfit>
-    ensures goes_by_the_table { (t : List ℕ) → read t result ≡ converted_int (datum_of t literal) n to }
-{
-    match to {
-        Kind::Int | Kind::Date => Ok(Literal {
-            kind: to,
-            value: Value::Int(n),
-        }),
-        Kind::Long => Ok(Literal {
-            kind: to,
-            value: Value::Long(i64::from(n)),
-        }),
-        _ => keep(literal, to),
-    }
-}
-
-fn from_long(literal: Literal, n: i64, to: Kind) -> Result<Literal, Misfit>
-    ensures goes_by_the_table { (t : List ℕ) → read t result ≡ converted_long (datum_of t literal) n to }
-{
-    match to {
-        Kind::Int => Ok(Literal {
-            kind: to,
-            value: to_int(n),
-        }),
-        Kind::Timestamp | Kind::Timestamptz => Ok(Literal {
-            kind: to,
-            value: Value::Long(to_stamp(literal.kind, n)?),
-        }),
-        _ => keep(literal, to),
-    }
-}
-
-fn from_string(literal: Literal, to: Kind) -> Result<Literal, Misfit>
-    ensures goes_by_the_table { (t : List ℕ) → read t result ≡ converted_string (datum_of t literal) to }
-{
-    match to {
-        Kind::Boolean | Kind::Int | Kind::Long | Kind::Timestamp | Kind::Timestamptz => {
-            Err(Misfit::TextNotRead)
-        }
-        _ => keep(literal, to),
-    }
-}
-
-fn by_storage(literal: Literal, to: Kind) -> Result<Literal, Misfit>
-    ensures goes_by_the_table { (t : List ℕ) → read t result ≡ converted (datum_of t literal) to }
-{
-    match literal.value {
-        Value::Int(n) => from_int(literal, n, to),
-        Value::Long(n) => from_long(literal, n, to),
-        Value::String(_) => from_string(literal, to),
-        _ => keep(literal, to),
-    }
-}
-
 // The literal at the column's kind, or why there is none.
+#[tactic(auto, using(crate::proofs::Lawful::lawful))]
 pub fn convert(literal: Literal, to: Kind) -> Result<Literal, Misfit>
     ensures goes_by_the_table { (t : List ℕ) → read t result ≡ converted (datum_of t literal) to }
     ensures obeys_the_laws { Conversion }
 {
-    by_storage(literal, to)
+    let value = match (literal.value, to) {
+        (Value::Int(n), Kind::Int | Kind::Date) => Value::Int(n),
+        (Value::Int(n), Kind::Long) => Value::Long(i64::from(n)),
+        (Value::Long(n), Kind::Int) => to_int(n),
+        (Value::Long(n), Kind::Timestamp | Kind::Timestamptz) => {
+            Value::Long(to_stamp(literal.kind, n)?)
+        }
+        (
+            Value::String(_),
+            Kind::Boolean | Kind::Int | Kind::Long | Kind::Timestamp | Kind::Timestamptz,
+        ) => return Err(Misfit::TextNotRead),
+        // any other stays, if its kind and fixed length are the column's
+        (value, _) if literal.kind.is(to) => value,
+        _ => return Err(Misfit::NotConvertible),
+    };
+    Ok(Literal { kind: to, value })
 }
