@@ -1,22 +1,19 @@
 -- The laws of conversion.
-use Rattle.std.proofs.Common.{◌≡◌, ℕ, Bool, true, false, cond, ◌⊎◌, List, ℤ, pos, negsuc, ◌≤ℤ◌, ◌<ℤ◌, Ok, Err, Result, sym, refl, ap, ◌∙◌, subst, inl, inr, true≢false, arith}
+use Rattle.std.proofs.Common.{◌≡◌, ℕ, Bool, true, false, cond, ◌⊎◌, List, ℤ, pos, negsuc, ◌≤ℤ◌, ◌<ℤ◌, Ok, Err, Result, sym, refl, ap, ◌∙◌, subst, inl, inr, arith}
 use lib.Signed.{lt_z}
 use Rattle.std.proofs.lemmas.Int.{ints}
 use Rattle.values.specs.declared.kinds.Kind.{Kind}
 use Rattle.values.specs.declared.kinds.Kind.TheVariants as K
 use Rattle.values.specs.Kinds.{same_kind}
-use Rattle.values.specs.Contents.{boolean, int, long, float, double, string, binary, Content, number, bytes, above_max, below_min, Datum}
+use Rattle.values.specs.Contents.{int, long, string, Content, number, bytes, above_max, below_min, Datum}
 use Rattle.values.specs.Kept.{well_kept_datum}
 use Rattle.values.proofs.KindsTold.{one_kind, kind_itself}
 use Rattle.conversion.specs.declared.convert.Misfit.{Misfit}
-use Rattle.conversion.specs.declared.convert.Misfit.TheVariants.{NotConvertible, TextNotRead}
+use Rattle.conversion.specs.declared.convert.Misfit.TheVariants.{NotConvertible}
 use Rattle.conversion.specs.Table.{Rule, stays, as_is, narrows, stamps, unread, table, kept, narrowed, micros, stamped, stamp_at, apply, by_content, converted}
 use Rattle.conversion.specs.Laws.{datum, Extreme, Floored, Narrowed, CountsNanos, CountsMicros, Conversion}
 
 -- ---- what is kept
-
-refused : {A : Type 0} (e : Misfit) (m : Datum) → ◌≡◌ {A = Result Datum Misfit} (Err e) (Ok m) → A
-refused e m h = let z : ◌≡◌ {A = ℕ} 0 1 = cc in absurd (omega arith)
 
 given : (d m : Datum) → ◌≡◌ {A = Result Datum Misfit} (Ok d) (Ok m) → d ≡ m
 given d m h = cc
@@ -25,8 +22,8 @@ kept_gives : (d m : Datum) (k : Kind) → kept d k ≡ Ok m → (d ≡ m) × (d.
 kept_gives d m k h = go (same_kind d.kind k) refl h
   where
     go : (b : Bool) → b ≡ same_kind d.kind k → cond b (Ok d) (Err NotConvertible) ≡ Ok m → (d ≡ m) × (d.kind ≡ k)
-    go true e g = (given d m g, one_kind d.kind k (sym e))
-    go false e g = refused NotConvertible m g
+    go true e g = (cc, one_kind d.kind k (sym e))
+    go false e g = cc
 
 kept_own : (d : Datum) → kept d d.kind ≡ Ok d
 kept_own d = ap (λ (b : Bool). cond b (Ok d) (Err NotConvertible)) (kind_itself d.kind)
@@ -37,15 +34,15 @@ kept-kind : (d m : Datum) (k : Kind) → kept d k ≡ Ok m → m.kind ≡ k
 kept-kind d m k h = let w = kept_gives d m k h in sym (ap (λ (x : Datum). x.kind) w.0) ∙ w.1
 
 stamp_kind : (r : Result ℤ Misfit) (m : Datum) (k : Kind) → stamp_at k r ≡ Ok m → m.kind ≡ k
-stamp_kind (Ok n) m k h = sym (ap (λ (x : Datum). x.kind) (given (datum k (number long n)) m h))
-stamp_kind (Err e) m k h = refused e m h
+stamp_kind (Ok n) m k h = cc
+stamp_kind (Err e) m k h = cc
 
 apply-kind : (r : Rule) (d m : Datum) (n : ℤ) (k : Kind) → apply r d n k ≡ Ok m → m.kind ≡ k
 apply-kind stays d m n k h = kept-kind d m k h
-apply-kind (as_is s) d m n k h = sym (ap (λ (x : Datum). x.kind) (given (datum k (number s n)) m h))
-apply-kind narrows d m n k h = sym (ap (λ (x : Datum). x.kind) (given (datum k (narrowed n)) m h))
+apply-kind (as_is s) d m n k h = cc
+apply-kind narrows d m n k h = cc
 apply-kind stamps d m n k h = stamp_kind (stamped d.kind n) m k h
-apply-kind unread d m n k h = refused TextNotRead m h
+apply-kind unread d m n k h = cc
 
 -- ---- what comes out is kept as the column's kind says
 
@@ -61,20 +58,12 @@ Suits stamps k = (n : ℤ) → well_kept_datum (datum k (number long n)) ≡ tru
 Suits unread k = Unit {0}
 
 table_suits : (k : Kind) → Suits (table k).of_int k × Suits (table k).of_long k × Suits (table k).of_string k
-table_suits K.Boolean = (tt, tt, tt)
 table_suits K.Int = (λ n. refl, λ n. refl, tt)
 table_suits K.Date = (λ n. refl, tt, tt)
 table_suits K.Long = (λ n. refl, tt, tt)
-table_suits K.Time = (tt, tt, tt)
 table_suits K.Timestamp = (tt, λ n. refl, tt)
 table_suits K.Timestamptz = (tt, λ n. refl, tt)
-table_suits K.TimestampNs = (tt, tt, tt)
-table_suits K.TimestamptzNs = (tt, tt, tt)
-table_suits K.Float = (tt, tt, tt)
-table_suits K.Double = (tt, tt, tt)
-table_suits K.String = (tt, tt, tt)
-table_suits (K.Fixed w) = (tt, tt, tt)
-table_suits K.Binary = (tt, tt, tt)
+table_suits k = (tt, tt, tt)
 
 kept-sound : (d m : Datum) (k : Kind) → well_kept_datum d ≡ true → kept d k ≡ Ok m → Sound m
 kept-sound d m k w h = inl (subst (λ (x : Datum). well_kept_datum x ≡ true) (kept_gives d m k h).0 w)
@@ -89,100 +78,54 @@ narrowed-sound k n w = go (lt_z (pos 2147483647) n) (lt_z n (negsuc 2147483647))
 
 stamp_sound : (r : Result ℤ Misfit) (m : Datum) (k : Kind) → Suits stamps k → stamp_at k r ≡ Ok m → Sound m
 stamp_sound (Ok n) m k s h = inl (subst (λ (x : Datum). well_kept_datum x ≡ true) (given (datum k (number long n)) m h) (s n))
-stamp_sound (Err e) m k s h = refused e m h
+stamp_sound (Err e) m k s h = cc
 
 apply-sound : (r : Rule) (d m : Datum) (n : ℤ) (k : Kind) → Suits r k → well_kept_datum d ≡ true → apply r d n k ≡ Ok m → Sound m
 apply-sound stays d m n k s w h = kept-sound d m k w h
 apply-sound (as_is c) d m n k s w h = inl (subst (λ (x : Datum). well_kept_datum x ≡ true) (given (datum k (number c n)) m h) (s n))
 apply-sound narrows d m n k s w h = subst Sound (given (datum k (narrowed n)) m h) (narrowed-sound k n (s n))
 apply-sound stamps d m n k s w h = stamp_sound (stamped d.kind n) m k s h
-apply-sound unread d m n k s w h = refused TextNotRead m h
+apply-sound unread d m n k s w h = cc
 
 -- ---- the laws, by content
 
 kind-after : (c : Content) (d m : Datum) (k : Kind) → by_content c d k ≡ Ok m → m.kind ≡ k
-kind-after (number boolean n) d m k h = kept-kind d m k h
 kind-after (number int n) d m k h = apply-kind (table k).of_int d m n k h
 kind-after (number long n) d m k h = apply-kind (table k).of_long d m n k h
-kind-after (number float n) d m k h = kept-kind d m k h
-kind-after (number double n) d m k h = kept-kind d m k h
 kind-after (bytes string b) d m k h = apply-kind (table k).of_string d m (pos 0) k h
-kind-after (bytes binary b) d m k h = kept-kind d m k h
-kind-after above_max d m k h = kept-kind d m k h
-kind-after below_min d m k h = kept-kind d m k h
+kind-after c d m k h = kept-kind d m k h
 
 sound-after : (c : Content) (d m : Datum) (k : Kind) → well_kept_datum d ≡ true → by_content c d k ≡ Ok m → Sound m
-sound-after (number boolean n) d m k w h = kept-sound d m k w h
 sound-after (number int n) d m k w h = apply-sound (table k).of_int d m n k (table_suits k).0 w h
 sound-after (number long n) d m k w h = apply-sound (table k).of_long d m n k (table_suits k).1 w h
-sound-after (number float n) d m k w h = kept-sound d m k w h
-sound-after (number double n) d m k w h = kept-sound d m k w h
 sound-after (bytes string b) d m k w h = apply-sound (table k).of_string d m (pos 0) k (table_suits k).2 w h
-sound-after (bytes binary b) d m k w h = kept-sound d m k w h
-sound-after above_max d m k w h = kept-sound d m k w h
-sound-after below_min d m k w h = kept-sound d m k w h
-
-no_way : {X : Type 0} → false ≡ true → X
-no_way h = absurd (true≢false (sym h))
+sound-after c d m k w h = kept-sound d m k w h
 
 int_own : (k : Kind) (n : ℤ) → well_kept_datum (datum k (number int n)) ≡ true → converted (datum k (number int n)) k ≡ Ok (datum k (number int n))
-int_own K.Boolean n h = kept_own (datum K.Boolean (number int n))
 int_own K.Int n h = refl
 int_own K.Date n h = refl
-int_own K.Long n h = no_way h
-int_own K.Time n h = kept_own (datum K.Time (number int n))
-int_own K.Timestamp n h = kept_own (datum K.Timestamp (number int n))
-int_own K.Timestamptz n h = kept_own (datum K.Timestamptz (number int n))
-int_own K.TimestampNs n h = kept_own (datum K.TimestampNs (number int n))
-int_own K.TimestamptzNs n h = kept_own (datum K.TimestamptzNs (number int n))
-int_own K.Float n h = kept_own (datum K.Float (number int n))
-int_own K.Double n h = kept_own (datum K.Double (number int n))
-int_own K.String n h = kept_own (datum K.String (number int n))
-int_own (K.Fixed w) n h = kept_own (datum (K.Fixed w) (number int n))
-int_own K.Binary n h = kept_own (datum K.Binary (number int n))
+int_own K.Long n h = cc
+int_own k n h = kept_own (datum k (number int n))
 
 long_own : (k : Kind) (n : ℤ) → well_kept_datum (datum k (number long n)) ≡ true → converted (datum k (number long n)) k ≡ Ok (datum k (number long n))
-long_own K.Boolean n h = kept_own (datum K.Boolean (number long n))
-long_own K.Int n h = no_way h
-long_own K.Date n h = kept_own (datum K.Date (number long n))
-long_own K.Long n h = kept_own (datum K.Long (number long n))
-long_own K.Time n h = kept_own (datum K.Time (number long n))
+long_own K.Int n h = cc
 long_own K.Timestamp n h = refl
 long_own K.Timestamptz n h = refl
-long_own K.TimestampNs n h = kept_own (datum K.TimestampNs (number long n))
-long_own K.TimestamptzNs n h = kept_own (datum K.TimestamptzNs (number long n))
-long_own K.Float n h = kept_own (datum K.Float (number long n))
-long_own K.Double n h = kept_own (datum K.Double (number long n))
-long_own K.String n h = kept_own (datum K.String (number long n))
-long_own (K.Fixed w) n h = kept_own (datum (K.Fixed w) (number long n))
-long_own K.Binary n h = kept_own (datum K.Binary (number long n))
+long_own k n h = kept_own (datum k (number long n))
 
 string_own : (k : Kind) (b : List ℕ) → well_kept_datum (datum k (bytes string b)) ≡ true → converted (datum k (bytes string b)) k ≡ Ok (datum k (bytes string b))
-string_own K.Boolean b h = no_way h
-string_own K.Int b h = no_way h
-string_own K.Date b h = kept_own (datum K.Date (bytes string b))
-string_own K.Long b h = no_way h
-string_own K.Time b h = kept_own (datum K.Time (bytes string b))
-string_own K.Timestamp b h = no_way h
-string_own K.Timestamptz b h = no_way h
-string_own K.TimestampNs b h = kept_own (datum K.TimestampNs (bytes string b))
-string_own K.TimestamptzNs b h = kept_own (datum K.TimestamptzNs (bytes string b))
-string_own K.Float b h = kept_own (datum K.Float (bytes string b))
-string_own K.Double b h = kept_own (datum K.Double (bytes string b))
-string_own K.String b h = kept_own (datum K.String (bytes string b))
-string_own (K.Fixed w) b h = kept_own (datum (K.Fixed w) (bytes string b))
-string_own K.Binary b h = kept_own (datum K.Binary (bytes string b))
+string_own K.Boolean b h = cc
+string_own K.Int b h = cc
+string_own K.Long b h = cc
+string_own K.Timestamp b h = cc
+string_own K.Timestamptz b h = cc
+string_own k b h = kept_own (datum k (bytes string b))
 
 own : (k : Kind) (c : Content) → well_kept_datum (datum k c) ≡ true → converted (datum k c) k ≡ Ok (datum k c)
-own k (number boolean n) h = kept_own (datum k (number boolean n))
 own k (number int n) h = int_own k n h
 own k (number long n) h = long_own k n h
-own k (number float n) h = kept_own (datum k (number float n))
-own k (number double n) h = kept_own (datum k (number double n))
 own k (bytes string b) h = string_own k b h
-own k (bytes binary b) h = kept_own (datum k (bytes binary b))
-own k above_max h = kept_own (datum k above_max)
-own k below_min h = kept_own (datum k below_min)
+own k c h = kept_own (datum k c)
 
 -- ---- numbers
 
