@@ -9,7 +9,6 @@ use Rattle.values.specs.Kinds.{storage_of, place_of, same_family}
 use Rattle.values.specs.Contents.{Content, number, bytes, above_max, below_min, Datum}
 use Rattle.values.specs.Kept.{code_of, numeric_code, textual_code, kept_in}
 use Rattle.comparison.specs.Orders.{number_order, byte_order, content_order, in_storage, comparable, compared}
-use Rattle.comparison.specs.Equal.{no_way}
 use Rattle.comparison.specs.Laws.{turned_answer, NotAfter, Ordered}
 use Rattle.comparison.proofs.Contents.{when, numeric_low, textual_high, content_turns, content_equal, content_same, Forward, then, content_joins}
 
@@ -45,17 +44,17 @@ compare_kept s r (number c m) (number d n) e p q =
     (number_order m n, ap (λ (b : Bool). cond b (Some (number_order m n)) None) t)
 compare_kept s r (number c m) (bytes d b) e p q =
     absurd (omega (arith, eqb-true (code_of s) (numeric_code c) p, eqb-true (code_of r) (textual_code d) q, numeric_low c, textual_high d, e))
-compare_kept s r (number c m) above_max e p q = no_way q
-compare_kept s r (number c m) below_min e p q = no_way q
+compare_kept s r (number c m) above_max e p q = absurd (cc)
+compare_kept s r (number c m) below_min e p q = absurd (cc)
 compare_kept s r (bytes c a) (number d n) e p q =
     absurd (omega (arith, eqb-true (code_of s) (textual_code c) p, eqb-true (code_of r) (numeric_code d) q, numeric_low d, textual_high c, e))
 compare_kept s r (bytes c a) (bytes d b) e p q =
     let t : eqb (textual_code c) (textual_code d) ≡ true = eq-eqb _ _ (sym (eqb-true _ _ p) ∙ e ∙ eqb-true _ _ q) in
     (byte_order a b, ap (λ (f : Bool). cond f (Some (byte_order a b)) None) t)
-compare_kept s r (bytes c a) above_max e p q = no_way q
-compare_kept s r (bytes c a) below_min e p q = no_way q
-compare_kept s r above_max y e p q = no_way p
-compare_kept s r below_min y e p q = no_way p
+compare_kept s r (bytes c a) above_max e p q = absurd (cc)
+compare_kept s r (bytes c a) below_min e p q = absurd (cc)
+compare_kept s r above_max y e p q = absurd (cc)
+compare_kept s r below_min y e p q = absurd (cc)
 
 -- ---- comparable values
 

@@ -1,6 +1,6 @@
 -- The test of equality tells equal contents and equal kinds, so it has the laws of equality.
-use Rattle.std.specs.Prelude.{◌≡◌, ℕ, true, false, cond, ℤ, pos, negsuc, Decides, refl}
-use Rattle.std.proofs.Common.{eqb, sym, ap, ◌∙◌, subst, true≢false, arith}
+use Rattle.std.specs.Prelude.{◌≡◌, ℕ, true, cond, ℤ, pos, negsuc, Decides, refl}
+use Rattle.std.proofs.Common.{eqb, sym, ap, ◌∙◌, subst, arith}
 use Rattle.std.proofs.lemmas.Bool.{and_parts, and_from, eqb-true, eq-eqb}
 use Rattle.std.proofs.lemmas.Slice.Eq.{bytes_eq-Decides}
 use Rattle.std.specs.Cmp.{IsPartialEquivalence, IsEquivalence, both_ways, partial_equiv_from_equiv}
@@ -34,13 +34,10 @@ one_textual binary binary e = refl
 
 -- ---- contents
 
-pub no_way : {X : Type 0} → false ≡ true → X
-no_way h = absurd (true≢false (sym h))
-
 number_tells : (a b : ℤ) → Decides (same_number a b) (a ≡ b)
 number_tells (pos a) (pos b) = (λ h. ap pos (eqb-true a b h), λ e. eq-eqb a b (cc))
-number_tells (pos a) (negsuc b) = (no_way, λ e. let z : ◌≡◌ {A = ℕ} 0 1 = cc in absurd (omega arith))
-number_tells (negsuc a) (pos b) = (no_way, λ e. let z : ◌≡◌ {A = ℕ} 0 1 = cc in absurd (omega arith))
+number_tells (pos a) (negsuc b) = (λ h. absurd (cc), λ e. absurd (cc))
+number_tells (negsuc a) (pos b) = (λ h. absurd (cc), λ e. absurd (cc))
 number_tells (negsuc a) (negsuc b) = (λ h. ap negsuc (eqb-true a b h), λ e. eq-eqb a b (cc))
 
 content_itself : (x : Content) → same_content x x ≡ true
@@ -53,23 +50,12 @@ content-one : (x y : Content) → same_content x y ≡ true → x ≡ y
 content-one (number s m) (number r n) h =
     let w = and_parts (eqb (numeric_code s) (numeric_code r)) (same_number m n) h in
     ap (λ (c : Numeric). number c m) (one-numeric s r (eqb-true _ _ w.0)) ∙ ap (number r) ((number_tells m n).0 w.1)
-content-one (number s m) (bytes r b) h = no_way h
-content-one (number s m) above_max h = no_way h
-content-one (number s m) below_min h = no_way h
-content-one (bytes s a) (number r n) h = no_way h
 content-one (bytes s a) (bytes r b) h =
     let w = and_parts (eqb (textual_code s) (textual_code r)) (bytes_eq a b) h in
     ap (λ (c : Textual). bytes c a) (one_textual s r (eqb-true _ _ w.0)) ∙ ap (bytes r) ((bytes_eq-Decides a b).0 w.1)
-content-one (bytes s a) above_max h = no_way h
-content-one (bytes s a) below_min h = no_way h
-content-one above_max (number r n) h = no_way h
-content-one above_max (bytes r b) h = no_way h
 content-one above_max above_max h = refl
-content-one above_max below_min h = no_way h
-content-one below_min (number r n) h = no_way h
-content-one below_min (bytes r b) h = no_way h
-content-one below_min above_max h = no_way h
 content-one below_min below_min h = refl
+content-one x y h = absurd (cc)
 
 pub content_tells : (x y : Content) → Decides (same_content x y) (x ≡ y)
 content_tells x y = (content-one x y, λ e. subst (λ (z : Content). same_content x z ≡ true) e (content_itself x))
