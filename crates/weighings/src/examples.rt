@@ -8,7 +8,7 @@ pub fn weighings_stand()
 
 #[cfg(test)]
 mod tests {
-    use comparison::data::{partial_cmp, same};
+    use comparison::data::Datum;
     use conversion::convert::{Misfit, convert};
     use std::cmp::Ordering;
     use values::kinds::Kind;
@@ -21,11 +21,12 @@ mod tests {
         }
     }
 
-    fn double(x: f64) -> Literal {
-        Literal {
+    fn double(x: f64) -> Datum<'static> {
+        let literal = Literal {
             kind: Kind::Double,
             value: Value::Double(x),
-        }
+        };
+        Datum::new(literal, b"")
     }
 
     fn text(kind: Kind, start: usize, len: usize) -> Literal {
@@ -107,21 +108,21 @@ mod tests {
     #[test]
     fn floats_follow_total_order(rt: HostRuntime) {
         let (minus, plus, nan) = (double(-0.0), double(0.0), double(f64::NAN));
-        assert!(rt; !same(&minus, b"", &plus, b""));
-        assert!(rt; same(&nan, b"", &nan, b""));
-        assert_eq!(rt; partial_cmp(&minus, b"", &plus, b""), Some(Ordering::Less));
-        assert_eq!(rt;
-            partial_cmp(&nan, b"", &double(5.0), b""),
-            Some(Ordering::Greater)
-        );
+        assert!(rt; minus != plus);
+        assert!(rt; nan == nan);
+        assert_eq!(rt; minus.partial_cmp(&plus), Some(Ordering::Less));
+        assert_eq!(rt; nan.partial_cmp(&double(5.0)), Some(Ordering::Greater));
     }
 
     #[test]
     fn texts_compare_wherever_they_lie(rt: HostRuntime) {
         let a = text(Kind::String, 0, 1);
         let ab = text(Kind::String, 1, 2);
-        assert_eq!(rt; partial_cmp(&a, b"a", &ab, b"xab"), Some(Ordering::Less));
-        assert_eq!(rt; partial_cmp(&a, b"a", &double(0.0), b""), None);
-        assert!(rt; same(&a, b"a", &a, b"ab"));
+        assert_eq!(rt;
+            Datum::new(a, b"a").partial_cmp(&Datum::new(ab, b"xab")),
+            Some(Ordering::Less)
+        );
+        assert_eq!(rt; Datum::new(a, b"a").partial_cmp(&double(0.0)), None);
+        assert!(rt; Datum::new(a, b"a") == Datum::new(a, b"ab"));
     }
 }
