@@ -99,12 +99,12 @@ impl<'a> Datum<'a> {
     }
 }
 
-impl<'a> PartialEq for Datum<'a> {
+impl PartialEq for Datum<'_> {
     ghost eq = { same_datum };
 
     ghost laws = { datum_per };
 
-    fn eq(&self, other: &Datum<'a>) -> bool
+    fn eq(&self, other: &Self) -> bool
         ensures compares_kind_and_content { result ≡ same_datum self.now other.now }
         ensures tells_equal_data { Decides result (self.now ≡ other.now) }
     {
@@ -112,7 +112,7 @@ impl<'a> PartialEq for Datum<'a> {
     }
 }
 
-impl<'a> Eq for Datum<'a> {
+impl Eq for Datum<'_> {
     ghost laws = { datum_equivalence };
 }
 
