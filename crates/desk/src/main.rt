@@ -2,6 +2,7 @@
 #![tactic(auto)]
 
 mod columns;
+mod failure;
 mod obey;
 mod row;
 mod script;
@@ -15,10 +16,8 @@ use crate::tally::Tally;
 fn run(rt: &HostRuntime) -> anyhow::Result<()> {
     let text = script::read(rt)?;
     let mut desk = Desk::new(rt.alloc());
-    let mut tally = Tally::NONE;
-    let mut number = 0u64;
-    for line in text.as_str().lines() {
-        number = number.saturating_add(1);
+    let mut tally = Tally::default();
+    for (number, line) in (1u64..).zip(text.as_str().lines()) {
         if let Some(outcome) = desk.obey(rt, number, line)? {
             tally.count(outcome);
         }

@@ -1,41 +1,22 @@
 // One line after another: read, called, and answered in plain words.
-use crate::columns::Columns;
+use crate::columns::{Columns, shape_of};
+use crate::failure::Failure;
 use crate::row::RowSheet;
+use crate::show::{advice, complaint};
 use crate::tally::Outcome;
 use crate::weigh;
-use commands::command::{Command, Fault, Malformed};
+use commands::command::{Command, Malformed, Presence};
 use commands::parse;
+use schema::fields::Field;
 use std::alloc::Global;
 use std::io;
+use values::literals::Span;
 
 // What has been handed in so far.
 #[derive(Drop)]
 pub struct Desk {
     columns: Columns,
     row: RowSheet,
-}
-
-fn complaint(fault: Fault) -> &'static str {
-    match fault {
-        Fault::OpenQuote => "a quote is left open",
-        Fault::UnknownCommand => "there is no such command",
-        Fault::MissingWord => "a word is missing",
-        Fault::ExtraWord => "there is a word too many",
-        Fault::OtherWord => "the command has another word here",
-        Fault::NotALiteral => "a literal was expected, as long:900 or string:glass",
-        Fault::NotAKind => "a kind was expected, as long or fixed(2)",
-        Fault::NotANumber => "a number was expected, in decimal without leading zeros",
-        Fault::NotAName => "a name was expected",
-        Fault::NotAColumn => "a kind, struct or list was expected",
-        Fault::NotAPresence => "required or optional was expected",
-    }
-}
-
-fn misread(rt: &HostRuntime, number: u64, malformed: Malformed) -> io::Result<Outcome> {
-    let Malformed { what, at } = malformed;
-    let words = complaint(what);
-    println!(rt; "   not understood, line {number}, byte {at}: {words}")?;
-    Ok(Outcome::NotUnderstood)
 }
 
 impl Desk {
@@ -53,30 +34,57 @@ impl Desk {
         number: u64,
         line: &str,
     ) -> io::Result<Option<Outcome>> {
-        let bytes = line.as_bytes();
-        let outcome = match parse(bytes) {
-            Ok(None) => return Ok(None),
-            Ok(Some(command)) => {
-                println!(rt; "{number}> {line}")?;
-                self.call(rt, command, bytes)?
-            }
-            Err(malformed) => {
-                println!(rt; "{number}> {line}")?;
-                misread(rt, number, malformed)?
-            }
+        let Some(command) = parse(line.as_bytes()).transpose() else {
+            return Ok(None);
         };
-        Ok(Some(outcome))
+        println!(rt; "{number}> {line}")?;
+        match self.answer(rt, command, line.as_bytes()) {
+            Ok(()) => Ok(Some(Outcome::Granted)),
+            Err(Failure::Malformed(Malformed { what, at })) => {
+                let words = complaint(what);
+                println!(rt; "   not understood, line {number}, byte {at}: {words}")?;
+                Ok(Some(Outcome::NotUnderstood))
+            }
+            Err(Failure::Refused(refused)) => {
+                let words = advice(refused.reason);
+                println!(rt; "   {refused}: {words}")?;
+                Ok(Some(Outcome::Refused))
+            }
+            Err(Failure::Io(error)) => Err(error),
+        }
     }
 
-    fn call(&mut self, rt: &HostRuntime, command: Command, line: &[u8]) -> io::Result<Outcome> {
-        match command {
+    fn answer(
+        &mut self,
+        rt: &HostRuntime,
+        command: Result<Command, Malformed>,
+        line: &[u8],
+    ) -> Result<(), Failure> {
+        match command? {
             Command::Equal(a, b) => weigh::equal(rt, a, b, line),
             Command::Compare(a, b) => weigh::compare(rt, a, b, line),
             Command::Convert(literal, kind) => weigh::convert(rt, literal, kind, line),
+            Command::Field {
+                number,
+                name,
+                column,
+                presence,
+                parent,
+            } => {
+                let field = Field {
+                    number,
+                    name: Span { start: 0, len: 0 },
+                    required: matches!(presence, Presence::Required),
+                    parent,
+                    shape: shape_of(column),
+                };
+                self.columns.add(rt, name.of(line), field)
+            }
+            Command::Schema => self.columns.check(rt),
+            Command::Find { name, any_case } => self.columns.find(rt, name.of(line), any_case),
             Command::Row { top } => self.row.begin(rt, top),
             Command::Cell(word) => self.row.add(rt, word, line),
             Command::Get { name } => self.columns.get(rt, &self.row, name.of(line)),
-            other => self.columns.call(rt, other, line),
         }
     }
 }

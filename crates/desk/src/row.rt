@@ -1,7 +1,7 @@
 // The row that is being typed: its cells, and the text that they name places of.
-use crate::show::Shown;
-use crate::tally::Outcome;
+use crate::failure::Failure;
 use commands::command::CellWord;
+use comparison::data::Datum;
 use rows::cell_row::CellRow;
 use rows::cells::Cell;
 use std::alloc::{AllocError, Global};
@@ -36,10 +36,7 @@ fn say(rt: &HostRuntime, word: CellWord, line: &[u8], place: usize) -> io::Resul
     match word {
         CellWord::Null => println!(rt; "   cell {place} is null"),
         CellWord::Value(literal) => {
-            let value = Shown {
-                literal,
-                text: line,
-            };
+            let value = Datum::new(literal, line);
             println!(rt; "   cell {place} holds {value}")
         }
         CellWord::Group { start, count } => println!(rt;
@@ -59,16 +56,16 @@ impl RowSheet {
     }
 
     // A new row, with so many cells at the top.
-    pub fn begin(&mut self, rt: &HostRuntime, top: usize) -> io::Result<Outcome> {
+    pub fn begin(&mut self, rt: &HostRuntime, top: usize) -> Result<(), Failure> {
         self.cells.clear();
         self.text.clear();
         self.top = top;
         println!(rt; "   a new row of {top} top cells")?;
-        Ok(Outcome::Granted)
+        Ok(())
     }
 
     // One cell more.
-    pub fn add(&mut self, rt: &HostRuntime, word: CellWord, line: &[u8]) -> io::Result<Outcome> {
+    pub fn add(&mut self, rt: &HostRuntime, word: CellWord, line: &[u8]) -> Result<(), Failure> {
         let place = self.cells.len();
         let cell = match word {
             CellWord::Null => Cell::Null,
@@ -82,7 +79,7 @@ impl RowSheet {
         };
         self.cells.push(cell)?;
         say(rt, word, line, place)?;
-        Ok(Outcome::Granted)
+        Ok(())
     }
 
     pub fn as_row(&self) -> CellRow<'_> {

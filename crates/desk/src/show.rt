@@ -1,110 +1,9 @@
-// Values and refusals in plain words.
-use std::fmt;
-use values::kinds::Kind;
-use values::literals::{Literal, Value};
-use values::refusals::{Reason, Refused};
-
-#[derive(Clone, Copy)]
-pub struct Name<'a>(pub &'a [u8]);
-
-impl fmt::Display for Name<'_> {
-    fn fmt<W: fmt::Write>(&self, f: &mut fmt::Formatter<W>) -> fmt::Result {
-        match std::str::from_utf8(self.0) {
-            Ok(text) => write!(f, "{text}"),
-            Err(_) => write!(f, "(bytes that are no text)"),
-        }
-    }
-}
-
-#[derive(Clone, Copy)]
-pub struct KindName(pub Kind);
-
-fn kind_word(kind: Kind) -> &'static str {
-    match kind {
-        Kind::Boolean => "boolean",
-        Kind::Int => "int",
-        Kind::Date => "date",
-        Kind::Long => "long",
-        Kind::Time => "time",
-        Kind::Timestamp => "timestamp",
-        Kind::Timestamptz => "timestamptz",
-        Kind::TimestampNs => "timestamp_ns",
-        Kind::TimestamptzNs => "timestamptz_ns",
-        Kind::Float => "float",
-        Kind::Double => "double",
-        Kind::String => "string",
-        Kind::Fixed(_) => "fixed",
-        Kind::Binary => "binary",
-    }
-}
-
-impl fmt::Display for KindName {
-    fn fmt<W: fmt::Write>(&self, f: &mut fmt::Formatter<W>) -> fmt::Result {
-        let word = kind_word(self.0);
-        match self.0 {
-            Kind::Fixed(len) => write!(f, "{word}({len})"),
-            _ => write!(f, "{word}"),
-        }
-    }
-}
-
-// A literal beside the bytes that its text lies in.
-#[derive(Clone, Copy)]
-pub struct Shown<'a> {
-    pub literal: Literal,
-    pub text: &'a [u8],
-}
-
-impl fmt::Display for Shown<'_> {
-    fn fmt<W: fmt::Write>(&self, f: &mut fmt::Formatter<W>) -> fmt::Result {
-        let kind = KindName(self.literal.kind);
-        match self.literal.value {
-            Value::Boolean(truth) => write!(f, "{kind} {truth}"),
-            Value::Int(number) => write!(f, "{kind} {number}"),
-            Value::Long(number) => write!(f, "{kind} {number}"),
-            Value::Float(number) => write!(f, "{kind} {number}"),
-            Value::Double(number) => write!(f, "{kind} {number}"),
-            Value::String(span) | Value::Binary(span) => {
-                let bytes = Name(span.of(self.text));
-                write!(f, "{kind} \"{bytes}\"")
-            }
-            Value::AboveMax => write!(f, "above every {kind}"),
-            Value::BelowMin => write!(f, "below every {kind}"),
-        }
-    }
-}
-
-// The name that docs/REFUSALS.md has for the reason.
-fn reason_name(reason: Reason) -> &'static str {
-    match reason {
-        Reason::NoFilter => "no filter",
-        Reason::SameFilter => "same filter",
-        Reason::OtherFamily => "other family",
-        Reason::OtherStorage => "other storage",
-        Reason::TextOutside => "text outside",
-        Reason::NameNotFound => "name not found",
-        Reason::NameAmbiguous => "name ambiguous",
-        Reason::NoAccessor => "no accessor",
-        Reason::NotFloating => "not floating",
-        Reason::NotConvertible { .. } => "not convertible",
-        Reason::TextNotRead { .. } => "text not read",
-        Reason::NoNodeLeft => "no node left",
-        Reason::LiteralsDontFit => "literals don't fit",
-        Reason::BoundTablesTooSmall => "bound tables too small",
-        Reason::WorkingTableTooShort => "working table too short",
-        Reason::UnsoundTables => "unsound tables",
-        Reason::SchemaRuleBroken => "schema rule broken",
-        Reason::PlacePastGroup => "place past group",
-        Reason::NoGroup => "no group",
-        Reason::NoValue => "no value",
-        Reason::OutsideRow => "outside row",
-        Reason::NotMet => "not met",
-        Reason::VisitorFault { .. } => "visitor fault",
-    }
-}
+// Refusals and faults in plain words.
+use commands::command::Fault;
+use values::refusals::Reason;
 
 // What is wrong, and what to correct.
-fn advice(reason: Reason) -> &'static str {
+pub fn advice(reason: Reason) -> &'static str {
     match reason {
         Reason::NoFilter => "no filter stands there; give the number of a standing filter",
         Reason::SameFilter => "one filter on both sides; join two different filters",
@@ -137,29 +36,19 @@ fn advice(reason: Reason) -> &'static str {
     }
 }
 
-#[derive(Clone, Copy)]
-pub struct Refusal(pub Refused);
-
-impl fmt::Display for Refusal {
-    fn fmt<W: fmt::Write>(&self, f: &mut fmt::Formatter<W>) -> fmt::Result {
-        let Refused { reason, place } = self.0;
-        let number = reason.number();
-        let name = reason_name(reason);
-        let words = advice(reason);
-        match reason {
-            Reason::NotConvertible { literal } | Reason::TextNotRead { literal } => {
-                write!(
-                    f,
-                    "refused {number} ({name}) at {place}, literal {literal}: {words}"
-                )
-            }
-            Reason::VisitorFault { fault } => {
-                write!(
-                    f,
-                    "refused {number} ({name}) at {place}, fault {fault}: {words}"
-                )
-            }
-            _ => write!(f, "refused {number} ({name}) at {place}: {words}"),
-        }
+// What is wrong with a line that is no command.
+pub fn complaint(fault: Fault) -> &'static str {
+    match fault {
+        Fault::OpenQuote => "a quote is left open",
+        Fault::UnknownCommand => "there is no such command",
+        Fault::MissingWord => "a word is missing",
+        Fault::ExtraWord => "there is a word too many",
+        Fault::OtherWord => "the command has another word here",
+        Fault::NotALiteral => "a literal was expected, as long:900 or string:glass",
+        Fault::NotAKind => "a kind was expected, as long or fixed(2)",
+        Fault::NotANumber => "a number was expected, in decimal without leading zeros",
+        Fault::NotAName => "a name was expected",
+        Fault::NotAColumn => "a kind, struct or list was expected",
+        Fault::NotAPresence => "required or optional was expected",
     }
 }

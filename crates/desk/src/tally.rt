@@ -9,7 +9,7 @@ pub enum Outcome {
     NotUnderstood,
 }
 
-#[derive(Clone, Copy)]
+#[derive(Clone, Copy, Default)]
 pub struct Tally {
     granted: u64,
     refused: u64,
@@ -17,18 +17,13 @@ pub struct Tally {
 }
 
 impl Tally {
-    pub const NONE: Tally = Tally {
-        granted: 0,
-        refused: 0,
-        not_understood: 0,
-    };
-
     pub fn count(&mut self, outcome: Outcome) {
         let counter = match outcome {
             Outcome::Granted => &mut self.granted,
             Outcome::Refused => &mut self.refused,
             Outcome::NotUnderstood => &mut self.not_understood,
         };
+        // three counts by outcome, no index
         *counter = counter.saturating_add(1);
     }
 }
