@@ -1,5 +1,6 @@
 -- Keep-first keeps the first of equals.
 use Rattle.std.proofs.Common.{◌≡◌, Bool, true, false, cond, ◌||◌, List, [], ◌∷◌, ◌++◌, sym, refl, ap, ◌∙◌, subst, ⊎_elim}
+use Rattle.std.proofs.Math.Bool.{or_assoc, or-false}
 use Rattle.std.proofs.lemmas.List.{append_assoc, append-nil}
 use Rattle.std.proofs.lemmas.Bool.{or_left, or_right, or_parts, or_cases, cond_both}
 use Rattle.lists.specs.Keep.{against, fresh, kept}
@@ -7,11 +8,7 @@ use Rattle.lists.specs.Laws.{Each, Distinct, firsts_after, firsts}
 
 against_append : {X : Type 0} (p : X → X → Bool) (held ys : List X) (x : X) → against p (held ++ ys) x ≡ (against p held x || against p ys x)
 against_append p [] ys x = refl
-against_append p (k ∷ held) ys x = ap (λ b. p k x || b) (against_append p held ys x) ∙ or_assoc (p k x) (against p held x) (against p ys x)
-  where
-    or_assoc : (a b c : Bool) → (a || (b || c)) ≡ ((a || b) || c)
-    or_assoc true b c = refl
-    or_assoc false b c = refl
+against_append p (k ∷ held) ys x = ap (λ b. p k x || b) (against_append p held ys x) ∙ sym (or_assoc (p k x) (against p held x) (against p ys x))
 
 -- one that passes against the front passes against the whole
 front-passes : {X : Type 0} (p : X → X → Bool) (held ys : List X) (x : X) → against p held x ≡ true → against p (held ++ ys) x ≡ true
@@ -61,13 +58,9 @@ passes_on p t (k ∷ held) x y a e =
 stand_dropped : {X : Type 0} (p : X → X → Bool) (t : (x y z : X) → p x y ≡ true → p y z ≡ true → p x z ≡ true) (held seen : List X) (x : X) → ((y : X) → against p held y ≡ against p seen y) → against p held x ≡ true → (y : X) → against p held y ≡ against p (seen ++ (x ∷ [])) y
 stand_dropped p t held seen x s a y = sym (against_append p seen (x ∷ []) y ∙ go (p x y) refl)
   where
-    or_false : (b : Bool) → (b || false) ≡ b
-    or_false true = refl
-    or_false false = refl
-
     go : (b : Bool) → b ≡ p x y → (against p seen y || (b || false)) ≡ against p held y
     go true e = or_right (against p seen y) true refl ∙ sym (passes_on p t held x y a (sym e))
-    go false e = or_false (against p seen y) ∙ sym (s y)
+    go false e = or-false (against p seen y) ∙ sym (s y)
 
 stand_kept : {X : Type 0} (p : X → X → Bool) (held seen : List X) (x : X) → ((y : X) → against p held y ≡ against p seen y) → (y : X) → against p (held ++ (x ∷ [])) y ≡ against p (seen ++ (x ∷ [])) y
 stand_kept p held seen x s y = against_append p held (x ∷ []) y ∙ ap (λ b. b || against p (x ∷ []) y) (s y) ∙ sym (against_append p seen (x ∷ []) y)

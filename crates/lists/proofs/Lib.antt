@@ -2,4 +2,3 @@ pub mod Firsts
 pub mod Picking
 pub mod Runs
 pub mod Tells
-pub mod Turns

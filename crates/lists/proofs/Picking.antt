@@ -1,13 +1,13 @@
 -- Picking the places of what a list keeps, and copying what is picked.
-use Rattle.std.proofs.Common.{◌≡◌, ℕ, zero, suc, ◌+◌, ◌<◌, ◌≤◌, Bool, true, false, leb, ◌⊎◌, List, [], ◌∷◌, ◌++◌, length, get_or, take, drop, set, Some, None, Option, sym, refl, ap, ◌∙◌, subst, inl, inr, add-zero, arith}
+use Rattle.std.proofs.Common.{◌≡◌, ℕ, zero, suc, ◌+◌, ◌<◌, ◌≤◌, Bool, true, false, leb, List, [], ◌∷◌, ◌++◌, length, get_or, take, drop, set, Some, None, Option, sym, refl, ap, ◌∙◌, subst, add-zero, arith}
 use native.Mathlib.Nat.{sub-zero}
 use Rattle.std.proofs.lemmas.List.{at_drop_more, at_drop_all, length-set, append_assoc, append-nil, length-append, take_more_set, take-append-drop, set_at, length-take-le, drop_more, take_more, length_push, take_all}
 use Rattle.std.proofs.lemmas.Bool.{le-leb, lt-leb}
-use Rattle.std.proofs.lemmas.Option.{slice_get_read, slice_get_past}
+use Rattle.std.proofs.lemmas.Option.{slice_get_read}
 use Rattle.std.specs.List.{slice_get}
 use Rattle.lists.specs.declared.list.Offered.TheVariants.{Kept, Dropped, Full}
 use Rattle.lists.specs.Keep.{against, fresh, kept, run, offered, placed, laid_end, laid}
-use Rattle.lists.specs.Picks.{both_pass, alike, before, chosen, Below}
+use Rattle.lists.specs.Picks.{alike, before, chosen, Below}
 use Rattle.lists.proofs.Tells.{was_dropped, was_kept, was_full}
 
 pub below_at : (n : ℕ) (is : List ℕ) (i : ℕ) → Below n is → i < length is → get_or is i 0 < n
@@ -42,18 +42,6 @@ element : {X : Type 0} (xs : List X) (i : ℕ) → i < length xs → (y : X) × 
 element [] i h = absurd (omega arith)
 element (x ∷ xs) zero h = (x, refl, refl)
 element (x ∷ xs) (suc i) h = element xs i (omega arith)
-
--- two places, tested as the elements read there
-pub alike_at : {X : Type 0} (p : X → X → Bool) (xs : List X) (i j : ℕ) (x y : X) → i < length xs → x ≡ get_or xs i x → j < length xs → y ≡ get_or xs j y → alike p xs i j ≡ p x y
-alike_at p xs i j x y h e k f = rw (slice_get_read xs (length xs) i x refl h e, slice_get_read xs (length xs) j y refl k f) refl
-
-pub never_alike : {X : Type 0} (p : X → X → Bool) (xs : List X) (i j : ℕ) → (length xs ≤ i) ⊎ ((i < length xs) × (length xs ≤ j)) → alike p xs i j ≡ false
-never_alike p xs i j (inl h) = rw (slice_get_past xs i h) refl
-never_alike p xs i j (inr h) = rw (slice_get_past xs j h.1) (none_after (slice_get xs i))
-  where
-    none_after : (o : Option _) → both_pass p o None ≡ false
-    none_after None = refl
-    none_after (Some x) = refl
 
 pub length-chosen : {X : Type 0} (xs : List X) (is : List ℕ) → Below (length xs) is → length (chosen xs is) ≡ length is
 length-chosen xs [] b = refl

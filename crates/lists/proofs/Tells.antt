@@ -11,17 +11,17 @@ use Rattle.lists.proofs.Runs.{run_push}
 
 is_dropped : (a b : Bool) → Dropped ≡ cond a Dropped (cond b Kept Full) → a ≡ true
 is_dropped true b e = refl
-is_dropped false true e = let z : ◌≡◌ {A = ℕ} 0 1 = cc in absurd (omega arith)
-is_dropped false false e = let z : ◌≡◌ {A = ℕ} 0 1 = cc in absurd (omega arith)
+is_dropped false true e = cc
+is_dropped false false e = cc
 
 is_kept : (a b : Bool) → Kept ≡ cond a Dropped (cond b Kept Full) → (a ≡ false) × (b ≡ true)
-is_kept true b e = let z : ◌≡◌ {A = ℕ} 0 1 = cc in absurd (omega arith)
+is_kept true b e = cc
 is_kept false true e = (refl, refl)
-is_kept false false e = let z : ◌≡◌ {A = ℕ} 0 1 = cc in absurd (omega arith)
+is_kept false false e = cc
 
 is_full : (a b : Bool) → Full ≡ cond a Dropped (cond b Kept Full) → (a ≡ false) × (b ≡ false)
-is_full true b e = let z : ◌≡◌ {A = ℕ} 0 1 = cc in absurd (omega arith)
-is_full false true e = let z : ◌≡◌ {A = ℕ} 0 1 = cc in absurd (omega arith)
+is_full true b e = cc
+is_full false true e = cc
 is_full false false e = (refl, refl)
 
 pub was_dropped : {X : Type 0} (p : X → X → Bool) (items : List X) (start end : ℕ) (x : X) → Dropped ≡ offered p items start end x → against p (run items start end) x ≡ true

@@ -7,9 +7,10 @@ ghost use Rattle.lists.specs.Laws.{Each, Distinct, firsts};
 use crate::offers::offer_to;
 use crate::picks::lay;
 use crate::policy::Equality;
+use std::ops::Range;
 
-// What became of an element that was offered.
-#[derive(Clone, Copy)]
+// What became of an element that was offered. Two of the three are no failure, so that this is neither an Option nor a Result.
+#[derive(Clone, Copy, Debug, PartialEq, Eq)]
 pub enum Offered {
     Kept,
     Dropped,
@@ -17,21 +18,20 @@ pub enum Offered {
     Full,
 }
 
-// Offers `x` to the list that lies from `start` to `end`.
+// Offers `x` to the list that lies in the cells.
 pub fn offer<P: Equality>(
     policy: &P,
     items: &mut [P::Item],
-    start: usize,
-    end: usize,
+    cells: Range<usize>,
     x: P::Item,
 ) -> Offered
-    ensures keeps_what_equals_none_held { result ≡ offered (P.Test.passed policy.now) items.old start end x }
-    ensures writes_the_kept_alone { items.new ≡ stored result items.old end x }
-    ensures holds_the_kept_last { run items.new start (end_after result end) ≡ held_after result (run items.old start end) x }
-    ensures has_an_equal_unless_full { (result ≢ Full) → against (P.Test.passed policy.now) (run items.new start (end_after result end)) x ≡ true }
-    ensures no_two_become_equal { Distinct (P.Test.passed policy.now) (run items.old start end) → Distinct (P.Test.passed policy.now) (run items.new start (end_after result end)) }
+    ensures keeps_what_equals_none_held { result ≡ offered (P.Test.passed policy.now) items.old cells.start cells.end x }
+    ensures writes_the_kept_alone { items.new ≡ stored result items.old cells.end x }
+    ensures holds_the_kept_last { run items.new cells.start (end_after result cells.end) ≡ held_after result (run items.old cells.start cells.end) x }
+    ensures has_an_equal_unless_full { (result ≢ Full) → against (P.Test.passed policy.now) (run items.new cells.start (end_after result cells.end)) x ≡ true }
+    ensures no_two_become_equal { Distinct (P.Test.passed policy.now) (run items.old cells.start cells.end) → Distinct (P.Test.passed policy.now) (run items.new cells.start (end_after result cells.end)) }
 {
-    offer_to(policy, items, start, end, x)
+    offer_to(policy, items, cells, x)
 }
 
 // A list lies among the first so many cells of its table.

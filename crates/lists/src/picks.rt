@@ -20,12 +20,10 @@ impl<'a, 'b, P: Test> Test for Places<'a, 'b, P> {
     ghost passed = { λ s a b. alike (P.Test.passed s.policy.now) s.from.now a b };
 
     fn passes(&self, earlier: &usize, later: &usize) -> bool {
-        let from = self.from;
-        let (i, j) = (*earlier, *later);
-        if i >= from.len() || j >= from.len() {
-            return false;
+        match (self.from.get(*earlier), self.from.get(*later)) {
+            (Some(x), Some(y)) => self.policy.passes(x, y),
+            _ => false,
         }
-        self.policy.passes(&from[i], &from[j])
     }
 }
 
@@ -35,8 +33,9 @@ fn pick<P: Test>(policy: &P, from: &[P::Item], picks: &mut [usize]) -> Option<us
 {
     let places = Places { policy, from };
     let mut end = 0;
+    // the places themselves are offered, and no element is read here
     for place in 0..from.len() {
-        match offer_to(&places, picks, 0, end, place) {
+        match offer_to(&places, picks, 0..end, place) {
             Offered::Kept => end += 1,
             Offered::Dropped => {}
             Offered::Full => return None,
@@ -51,8 +50,8 @@ fn copy_picked<T: Copy>(from: &[T], picks: &[usize], items: &mut [T], start: usi
     requires has_room { start + length picks.now ≤ length items.old }
     ensures writes_those_cells { items.new ≡ placed items.old start (chosen from.now picks.now) }
 {
-    for i in 0..picks.len() {
-        items[start + i] = from[picks[i]];
+    for (i, &place) in picks.iter().enumerate() {
+        items[start + i] = from[place];
     }
 }
 
@@ -67,6 +66,7 @@ pub fn lay<P: Test>(
     ensures lays_all_or_nothing { items.new ≡ laid (kept (P.passed policy.now) from.now) items.old start (min (length items.old) 1024) }
 {
     let room = items.len().min(LIMIT).checked_sub(start)?;
+    // nothing is allocated, so that the places stand in fixed memory, their count beside it
     let mut picks = [0usize; LIMIT];
     let count = pick(policy, from, &mut picks)?;
     if count > room {

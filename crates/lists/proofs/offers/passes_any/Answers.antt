@@ -1,16 +1,18 @@
-use Rattle.std.proofs.Common.{sym, ◌∙◌}
-use Rattle.std.proofs.lemmas.List.{at_drop_all}
+use Rattle.std.proofs.Common.{◌≡◌, Bool, ◌||◌, List, [], ◌∷◌, refl, ap, rules, tests, ◌∙◌}
+use Rattle.std.specs.List.{list_any}
+use Rattle.std.proofs.lemmas.Iterator.{YieldsList-from_slice, YieldsList-from_take}
+use Rattle.std.proofs.lemmas.Iterator.Adapters.{YieldsList-from_skip}
+use Rattle.std.proofs.lemmas.Iterator.Search.{any_from_yields_List}
 use Rattle.lists.specs.Keep.{against}
-use Rattle.lists.proofs.Turns.{turn}
 use Rattle.lists.proofs.offers.passes_any.Goals as goal
 
-pub returns-then-passes : goal.returns-then-passes
-returns-then-passes g c =
-    record { passes_against_one = sym (c.loop-y.invariant ∙ turn _ _ _ _ _ _ c.loop-y-test.true c.y-item.is c.if-passes.ensures.tells) }
-
-pub loop-y-preserved : goal.loop-y-preserved
-loop-y-preserved g c = c.loop-y.invariant ∙ turn _ _ _ _ _ _ c.loop-y-test.true c.y-item.is c.if-passes.ensures.tells
+any-against : {X : Type 0} (p : X → X → Bool) (held : List X) (x : X) → list_any (λ y. p y x) held ≡ against p held x
+any-against p [] x = refl
+any-against p (y ∷ held) x = ap (λ b. p y x || b) (any-against p held x)
 
 pub returns : goal.returns
 returns g c =
-    record { passes_against_one = sym (c.loop-y.invariant ∙ at_drop_all (λ zs. against (g.P.Test.passed c.args.policy.now) zs c.args.x.now) _ _ c.loop-y-test.false) }
+    let p = g.P.Test.passed c.args.policy.now in
+    let x = c.args.x.now in
+    let cells = YieldsList-from_take c.saturating_sub-count.result (YieldsList-from_skip c.args.cells.now.start (YieldsList-from_slice c.args.items.now (cc)) (cc)) (cc) in
+    record { passes_against_one = any_from_yields_List (λ y. p y x) _ _ c.any.result c.any.ensures.ran cells (λ y b q k. search (rules, tests)) ∙ rw c.saturating_sub-count.ensures (any-against p _ x) }
