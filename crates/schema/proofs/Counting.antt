@@ -1,12 +1,19 @@
--- Reading a field and counting.
-use Rattle.std.proofs.Common.{◌≡◌, ℕ, ◌+◌, ◌≤◌, Bool, true, false, cond, List, Option, ◌∙◌, add-one, arith}
+-- Fields of one parent.
+use Rattle.std.proofs.Common.{◌≡◌, ℕ, zero, suc, Bool, eqb, Some, None, Option, List, refl}
+use Rattle.std.specs.Option.{option_eq}
 use Rattle.schema.specs.declared.fields.Field.{Field}
 use Rattle.schema.specs.Lines.{parent_of, same_parent, tally, place}
 
--- one more field, of the same parent or not
-pub placed_more : (fs : List Field) (parent other : Option ℕ) (j count next : ℕ) (b : Bool) → count ≤ j → count ≡ tally (λ k. same_parent (parent_of fs k) parent) j → other ≡ parent_of fs j → b ≡ same_parent other parent → next ≡ count + cond b 1 0 → (next ≤ j + 1) × (next ≡ tally (λ k. same_parent (parent_of fs k) parent) (j + 1))
-placed_more fs parent other j count next true h e o t n = (omega arith, n ∙ rw (add-one j, ← o, ← t, e))
-placed_more fs parent other j count next false h e o t n = (omega arith, n ∙ rw (add-one j, ← o, ← t, e))
+-- `==` tells whether two parents are one
+same_parent-eq : (a b : Option ℕ) → option_eq eqb a b ≡ same_parent a b
+same_parent-eq None None = refl
+same_parent-eq None (Some q) = refl
+same_parent-eq (Some p) None = refl
+same_parent-eq (Some p) (Some q) = refl
 
-pub counted : (fs : List Field) (parent : Option ℕ) (i j count : ℕ) → count ≡ tally (λ k. same_parent (parent_of fs k) parent) j → parent ≡ parent_of fs i → j ≡ i → count ≡ place fs i
-counted fs parent i j count e o h = e ∙ rw (o, h)
+tally_same : (p q : ℕ → Bool) (n : ℕ) → ((j : ℕ) → p j ≡ q j) → tally p n ≡ tally q n
+tally_same p q zero s = refl
+tally_same p q (suc n) s = rw (tally_same p q n s, s n) refl
+
+pub place_by_eq : (fs : List Field) (i : ℕ) → tally (λ j. option_eq eqb (parent_of fs j) (parent_of fs i)) i ≡ place fs i
+place_by_eq fs i = tally_same _ _ i (λ j. same_parent-eq (parent_of fs j) (parent_of fs i))

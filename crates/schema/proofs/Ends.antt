@@ -1,15 +1,20 @@
 -- Names read from their ends.
-use Rattle.std.proofs.Common.{◌≡◌, ℕ, ◌+◌, ◌-◌, ◌<◌, ◌≤◌, Bool, false, not, List, [], ◌∷◌, ◌++◌, map, length, get_or, take, is_some, Some, None, Decides, Option, sym, refl, ap, ◌∙◌, arith, MatchOption}
+use Rattle.std.proofs.Common.{◌≡◌, ℕ, Bool, true, false, eqb, eq-eqb, List, [], ◌∷◌, ◌++◌, map, reverse, length, get_or, Some, None, Decides, Option, sym, refl, ap, ◌∙◌, arith, MatchOption, IfSome}
 use Rattle.std.proofs.lemmas.Slice.Eq.{bytes_eq-Decides}
-use Rattle.std.proofs.lemmas.List.{append-nil, append_assoc, length-map, length_push, map_push, nil_from_length, same_from_push, take_all, take_more}
-use Rattle.std.proofs.lemmas.Bool.{both_ways, not-true, not-false}
+use Rattle.std.proofs.lemmas.List.{append-nil, append_assoc, get_or_default, map_push, reverse-append, reverse-reverse}
+use Rattle.std.proofs.lemmas.List.Elements.{same_from_all_zip}
+use Rattle.std.proofs.lemmas.Bool.{both_ways, eqb-true}
 use Rattle.std.proofs.lemmas.Bool.Decides.{same_from_decides}
+use Rattle.std.proofs.lemmas.Iterator.{YieldsList}
+use Rattle.std.proofs.lemmas.Iterator.Consumers.{YieldsList-at, YieldsList-from_shown, YieldsList-turn, YieldsList-end}
+use Rattle.std.specs.Iterator.{YieldsLast, ComparesItemsByEq}
 use Rattle.std.specs.Str.{bytes_eq}
 use Rattle.schema.specs.declared.fields.Field.{Field}
 use Rattle.schema.specs.declared.names.Case.{Case}
 use Rattle.schema.specs.declared.names.Case.TheVariants.{Sensitive, Insensitive}
+use Rattle.schema.specs.declared.names.Tail.{Tail}
 use Rattle.schema.specs.Lines.{parent_of, above, line}
-use Rattle.schema.specs.Names.{after_dots, dotted, own_name, full_name, lowered, letter, spelled, before}
+use Rattle.schema.specs.Names.{after_dots, dotted, own_name, full_name, lowered, letter, spelled, before, rest}
 use Rattle.schema.proofs.Decisions.{never}
 use Rattle.schema.proofs.Walks.{line_step}
 
@@ -37,76 +42,67 @@ name_step fs t i = sym (ap (λ is. dotted (map own is)) (line_step fs i) ∙ go 
         ∙ ap (λ ns. dotted ns ++ (46 ∷ own i)) (sym to_p)
         ∙ sym (append_assoc (full_name fs t p) (46 ∷ []) (own i))
 
--- the last byte of those left
-pub last_left : (fs : List Field) (t : List ℕ) (o : Option ℕ) (left : List ℕ) → 0 < length left → before fs t o ++ left ≡ (before fs t o ++ take (length left - 1) left) ++ (get_or left (length left - 1) 0 ∷ [])
-last_left fs t o left h =
-    let n : ℕ = length left - 1 in
-    let more : n + 1 ≡ length left = omega arith in
-    ap (λ m. before fs t o ++ m) (sym (ap (λ k. take k left) more ∙ take_all (length left) left (omega arith)) ∙ take_more left n 0 (omega arith))
-    ∙ sym (append_assoc (before fs t o) (take n left) (get_or left n 0 ∷ []))
+-- what is left of a name, the last byte first
+pub yields_back : (s : Tail) → YieldsList (YieldsLast rest) (λ x. x) s (reverse (rest s))
+yields_back s =
+    YieldsList-from_shown (YieldsLast rest) (λ x. x) (λ s. reverse (rest s)) (λ s t h. rw h.0 refl) (λ s x t h. rw h (reverse-append (rest t) (x ∷ []))) s
 
--- the dot after a parent's full name
-pub last_dot : (fs : List Field) (t : List ℕ) (p : ℕ) (left name : List ℕ) → length left ≤ 0 → name ≡ full_name fs t p → before fs t (Some p) ++ left ≡ name ++ (46 ∷ [])
-last_dot fs t p left name h e = rw (nil_from_length left (omega arith), e) (append-nil (full_name fs t p ++ (46 ∷ [])))
-
--- nothing is left
-pub no_last : (fs : List Field) (t : List ℕ) (left : List ℕ) → length left ≤ 0 → before fs t None ++ left ≡ []
-no_last fs t left h = nil_from_length left (omega arith)
-
-spelled_push : (c : Case) (n : List ℕ) (x : ℕ) → spelled c (n ++ (x ∷ [])) ≡ spelled c n ++ (letter c x ∷ [])
-spelled_push Sensitive n x = refl
-spelled_push Insensitive n x = map_push lowered n x
-
--- two names are alike exactly if two others are
-pub record Alike (c : Case) (a b a' b' : List ℕ) : Type 0 where
-  pub to : spelled c a ≡ spelled c b → spelled c a' ≡ spelled c b'
-  pub from : spelled c a' ≡ spelled c b' → spelled c a ≡ spelled c b
-
-pub alike_more : (c : Case) (a b a' b' a'' b'' : List ℕ) (x y : ℕ) → Alike c a b a' b' → a' ≡ a'' ++ (x ∷ []) → b' ≡ b'' ++ (y ∷ []) → letter c x ≡ letter c y → Alike c a b a'' b''
-alike_more c a b a' b' a'' b'' x y s e f l =
-    let at_x : spelled c a' ≡ spelled c a'' ++ (letter c x ∷ []) = ap (spelled c) e ∙ spelled_push c a'' x in
-    let at_y : spelled c b' ≡ spelled c b'' ++ (letter c y ∷ []) = ap (spelled c) f ∙ spelled_push c b'' y in
-    record {
-      to = λ h. (same_from_push (spelled c a'') (spelled c b'') (letter c x) (letter c y) (sym at_x ∙ s.to h ∙ at_y)).0;
-      from = λ h. s.from (at_x ∙ ap (λ n. n ++ (letter c x ∷ [])) h ∙ ap (λ z. spelled c b'' ++ (z ∷ [])) l ∙ sym at_y);
-    }
-
-pub alike_not : (c : Case) (a b a' b' a'' b'' : List ℕ) (x y : ℕ) → Alike c a b a' b' → a' ≡ a'' ++ (x ∷ []) → b' ≡ b'' ++ (y ∷ []) → (letter c x ≡ letter c y → ⊥) → Decides false (spelled c a ≡ spelled c b)
-alike_not c a b a' b' a'' b'' x y s e f l =
-    let at_x : spelled c a' ≡ spelled c a'' ++ (letter c x ∷ []) = ap (spelled c) e ∙ spelled_push c a'' x in
-    let at_y : spelled c b' ≡ spelled c b'' ++ (letter c y ∷ []) = ap (spelled c) f ∙ spelled_push c b'' y in
-    never (λ h. l (same_from_push (spelled c a'') (spelled c b'') (letter c x) (letter c y) (sym at_x ∙ s.to h ∙ at_y)).1)
-
-length-spelled : (c : Case) (n : List ℕ) → length (spelled c n) ≡ length n
-length-spelled Sensitive n = refl
-length-spelled Insensitive n = length-map n lowered
-
--- one name ends before the other
-pub alike_longer : (c : Case) (a b a' b' a'' : List ℕ) (x : ℕ) → Alike c a b a' b' → a' ≡ a'' ++ (x ∷ []) → b' ≡ [] → Decides false (spelled c a ≡ spelled c b)
-alike_longer c a b a' b' a'' x s e f =
-    let size : length a' ≡ length a'' + 1 = ap length e ∙ length_push a'' x in
-    let none : length b' ≡ 0 = ap length f in
-    never (λ h. let same : length a' ≡ length b' = sym (length-spelled c a') ∙ ap length (s.to h) ∙ length-spelled c b' in omega arith)
-
-pub alike_start : (c : Case) (a b : List ℕ) → Alike c a b a b
-alike_start c a b = record { to = λ h. h; from = λ h. h }
-
--- a name of which nothing is left, and one of which something is
-pub nothing_left : {S : Type 0} (o : Option S) (n : List ℕ) (front : S → List ℕ) (last : S → ℕ) (r : Bool) → MatchOption o (n ≡ []) (λ s. n ≡ front s ++ (last s ∷ [])) → is_some o ≡ not r → Decides r (n ≡ [])
-nothing_left None n front last r e t = (λ _. e, λ _. not-false r (sym t))
-nothing_left (Some s) n front last r e t = (λ h. absurd (both_ways r (not-true r (sym t)) h), λ h. absurd (longer h))
+-- `eq` answers whether two iterators give one list
+pub same_from_eq : {S T : Type 0} {steps : S → Option ℕ → S → Type 0} {others : T → Option ℕ → T → Type 0} {s : S} (other : T) (xs ys : List ℕ) (r : Bool) → ComparesItemsByEq steps (λ x y. y ≡ x) others s other eqb r → YieldsList steps (λ x. x) s xs → YieldsList others (λ x. x) other ys → Decides r (xs ≡ ys)
+same_from_eq {steps = steps} {others = others} other xs ys r (it, zs, ws, o, p, u, v, b, (t, yields_zs, last_z), (w, yields_ws, last_w), alike, last) e f =
+    go o p last_z last_w last
   where
-    longer : n ≡ [] → ⊥
-    longer h = let size : length n ≡ length (front s) + 1 = ap length e ∙ length_push (front s) (last s) in let none : length n ≡ 0 = ap length h in omega arith
+    g : YieldsList others (λ x. x) it ys
+    g = YieldsList-at b f
 
-pub alike_ends : (c : Case) (a b a' b' : List ℕ) (r : Bool) → Alike c a b a' b' → a' ≡ [] → Decides r (b' ≡ []) → Decides r (spelled c a ≡ spelled c b)
-alike_ends c a b a' b' r s e d = (
-  λ h. s.from (ap (spelled c) (e ∙ sym (d.0 h))),
-  λ h. d.1 (nil_from_length b' (sym (length-spelled c b') ∙ sym (ap length (s.to h)) ∙ length-spelled c a' ∙ ap length e)),
+    one : zs ≡ ws
+    one = sym (same_from_all_zip _ zs ws alike (λ x y h. sym (eqb-true x y h)))
+
+    go : (o p : Option ℕ) → steps t o u → others w p v → MatchOption o (MatchOption p (r ≡ true) (λ _. r ≡ false)) (λ x. (r ≡ false) × IfSome p (λ y. eqb x y ≡ false)) → Decides r (xs ≡ ys)
+    go None None j k h =
+        let a = YieldsList-end e zs t yields_zs None u refl j in
+        let c = YieldsList-end g ws w yields_ws None v refl k in
+        (λ _. sym a.0 ∙ ap (map (λ x. x)) one ∙ c.0, λ _. h)
+    go None (Some y) j k h =
+        let a = YieldsList-end e zs t yields_zs None u refl j in
+        let c = YieldsList-turn g ws w yields_ws (Some y) v y refl k in
+        rw h (never (λ same. omega (arith, a.1, c.0, ap length one, ap length same)))
+    go (Some x) None j k h =
+        let a = YieldsList-turn e zs t yields_zs (Some x) u x refl j in
+        let c = YieldsList-end g ws w yields_ws None v refl k in
+        rw h.0 (never (λ same. omega (arith, a.0, c.1, ap length one, ap length same)))
+    go (Some x) (Some y) j k h =
+        let a = YieldsList-turn e zs t yields_zs (Some x) u x refl j in
+        let c = YieldsList-turn g ws w yields_ws (Some y) v y refl k in
+        rw h.0
+        (never
+        (λ same.
+        let here : x ≡ y = a.1 ∙ ap (λ is. get_or is (length zs) x) same ∙ ap (λ is. get_or ys (length is) x) one ∙ get_or_default ys (length ws) x y c.0 ∙ sym c.1 in
+        both_ways (eqb x y) h.1 (eq-eqb x y here)))
+
+spelled_letters : (c : Case) (n : List ℕ) → map (letter c) n ≡ spelled c n
+spelled_letters Sensitive [] = refl
+spelled_letters Sensitive (x ∷ n) = ap (λ m. x ∷ m) (spelled_letters Sensitive n)
+spelled_letters Insensitive [] = refl
+spelled_letters Insensitive (x ∷ n) = ap (λ m. lowered x ∷ m) (spelled_letters Insensitive n)
+
+map-reverse : (f : ℕ → ℕ) (n : List ℕ) → map f (reverse n) ≡ reverse (map f n)
+map-reverse f [] = refl
+map-reverse f (x ∷ n) =
+    ap (map f) (reverse-append (x ∷ []) n)
+    ∙ map_push f (reverse n) x
+    ∙ ap (λ m. m ++ (f x ∷ [])) (map-reverse f n)
+    ∙ sym (reverse-append (f x ∷ []) (map f n))
+
+letters-spelled : (c : Case) (n : List ℕ) → map (letter c) (reverse n) ≡ reverse (spelled c n)
+letters-spelled c n = map-reverse (letter c) n ∙ ap reverse (spelled_letters c n)
+
+-- two names are spelled alike if they are from their ends
+pub spelled_back : (c : Case) (a b : List ℕ) (r : Bool) → Decides r (map (letter c) (reverse a) ≡ map (letter c) (reverse b)) → Decides r (spelled c a ≡ spelled c b)
+spelled_back c a b r d = (
+  λ h. sym (reverse-reverse (spelled c a)) ∙ ap reverse (sym (letters-spelled c a) ∙ d.0 h ∙ letters-spelled c b) ∙ reverse-reverse (spelled c b),
+  λ e. d.1 (letters-spelled c a ∙ ap reverse e ∙ sym (letters-spelled c b)),
 )
-
-pub shorter : (n front : List ℕ) (x : ℕ) → n ≡ front ++ (x ∷ []) → length front < length n
-shorter n front x e = let size : length n ≡ length front + 1 = ap length e ∙ length_push front x in omega arith
 
 -- the test of two names, of which one is known
 pub named_as : (c : Case) (a b full name : List ℕ) (r : Bool) → Decides r (spelled c a ≡ spelled c b) → a ≡ full → b ≡ name → r ≡ bytes_eq (spelled c full) (spelled c name)

@@ -1,10 +1,21 @@
 -- The lists of the fields before one, to which it is offered.
-use Rattle.std.proofs.Common.{◌≡◌, ℕ, zero, suc, ◌+◌, ◌<◌, ◌≤◌, Bool, true, false, cond, ◌≢◌, List, [], ◌∷◌, length, get_or, take, set, Decides, refl, ap, ◌∙◌, ⊎_elim, arith}
+use Rattle.std.proofs.Common.{◌≡◌, ℕ, zero, suc, ◌+◌, ◌<◌, ◌≤◌, Bool, true, false, cond, ◌≢◌, List, [], ◌∷◌, length, get_or, take, set, Decides, eqb, refl, ap, ◌∙◌, ⊎_elim, arith}
 use native.Mathlib.Nat.{sub-zero}
 use Rattle.std.proofs.lemmas.List.{get_or-take, get_or-set_same, get_or-set_other, length-take-le}
+use Rattle.std.proofs.lemmas.Slice.Eq.{bytes_eq-Decides}
+use Rattle.std.proofs.lemmas.Bool.Decides.{Decides-eqb}
+use Rattle.std.specs.Str.{bytes_eq}
+use Rattle.schema.specs.declared.fields.Field.{Field}
+use Rattle.schema.specs.Lines.{field_at}
+use Rattle.schema.specs.Listed.{ListedNumbers, Listed}
+use Rattle.schema.specs.Names.{full_name}
+use Rattle.schema.specs.Rules.{NewNumber, NewName}
 use Rattle.std.proofs.lemmas.Bool.{both_ways, cases_Bool, cases_lt, le-leb, lt-ltb, or_parts, or_cases}
 use Rattle.lists.specs.declared.list.Offered.{Offered}
-use Rattle.lists.specs.declared.list.Offered.TheVariants.{Kept, Dropped}
+use Rattle.lists.specs.declared.list.Offered.TheVariants.{Kept, Dropped, Full}
+use Rattle.lists.specs.contracts.list.Offered.{the_type}
+use denote.Enum.Bare.{sameb}
+use Rattle.schema.proofs.Decisions.{never}
 use Rattle.lists.specs.Keep.{against, run, offered}
 
 -- an element that passes against none of a list
@@ -36,7 +47,7 @@ kept_new f p Same items i decides listed h x e o j l s =
     against-none p (take i items) (f i) j (is_kept (against p (take i items) (f i)) (o ∙ ap (offered p items 0 i) e ∙ answer p items i (f i) h)) (omega arith) (rw (get_or-take i items j 0 l, listed j l) ((decides j).1 s))
   where
     is_kept : (b : Bool) → Kept ≡ cond b Dropped Kept → b ≡ false
-    is_kept true e = let z : ◌≡◌ {A = ℕ} 0 1 = cc in absurd (omega arith)
+    is_kept true e = cc
     is_kept false e = refl
 
 pub refused_old : (f : ℕ → ℕ) (p : ℕ → ℕ → Bool) (Same : ℕ → Type 0) (items : List ℕ) (i : ℕ) (o : Offered) → ((j : ℕ) → Decides (p (f j) (f i)) (Same j)) → ((j : ℕ) → j < i → get_or items j 0 ≡ f j) → i < length items → (x : ℕ) → x ≡ f i → o ≡ offered p items 0 i x → (o ≡ Kept → ⊥) → ((j : ℕ) → j < i → Same j → ⊥) → ⊥
@@ -56,3 +67,19 @@ listed_more f items i x listed h e j l =
     (λ (k : j < i). let other : j ≢ i = omega arith in get_or-set_other items i j x 0 other ∙ listed j k)
     (λ (k : i ≤ j). let same : j ≡ i = omega arith in rw same (get_or-set_same items i x 0 h ∙ e))
     (cases_lt j i)
+
+-- so the answer to the offer decides it
+offered_new : (f : ℕ → ℕ) (p : ℕ → ℕ → Bool) (Same : ℕ → Type 0) (items : List ℕ) (i : ℕ) (o : Offered) → ((j : ℕ) → Decides (p (f j) (f i)) (Same j)) → ((j : ℕ) → j < i → get_or items j 0 ≡ f j) → i < length items → (x : ℕ) → x ≡ f i → o ≡ offered p items 0 i x → Decides (sameb the_type o Kept) ((j : ℕ) → j < i → Same j → ⊥)
+offered_new f p Same items i Kept decides listed h x e is = (λ _. kept_new f p Same items i decides listed h x e is, λ _. refl)
+offered_new f p Same items i Dropped decides listed h x e is = never (refused_old f p Same items i Dropped decides listed h x e is (λ lost. cc))
+offered_new f p Same items i Full decides listed h x e is = never (refused_old f p Same items i Full decides listed h x e is (λ lost. cc))
+
+pub number_new : (fs : List Field) (i : ℕ) (numbers : List ℕ) (o : Offered) (x : ℕ) → ListedNumbers fs i numbers → i < length numbers → x ≡ (field_at fs i).number → o ≡ offered eqb numbers 0 i x → Decides (sameb the_type o Kept) (NewNumber fs i)
+number_new fs i numbers o x listed h e is =
+    let number = λ (j : ℕ). (field_at fs j).number in
+    offered_new number eqb (λ j. number j ≡ number i) numbers i o (λ j. Decides-eqb (number j) (number i)) listed h x e is
+
+pub name_new : (fs : List Field) (t : List ℕ) (i : ℕ) (names : List ℕ) (o : Offered) → Listed i names → i < length names → o ≡ offered (λ j k. bytes_eq (full_name fs t j) (full_name fs t k)) names 0 i i → Decides (sameb the_type o Kept) (NewName fs t i)
+name_new fs t i names o listed h is =
+    let name = full_name fs t in
+    offered_new (λ j. j) (λ j k. bytes_eq (name j) (name k)) (λ j. name j ≡ name i) names i o (λ j. bytes_eq-Decides (name j) (name i)) listed h i refl is

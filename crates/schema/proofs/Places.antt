@@ -1,39 +1,39 @@
 -- The places along a line.
-use Rattle.std.proofs.Common.{◌≡◌, ℕ, zero, suc, ◌+◌, ◌<◌, ◌≤◌, Bool, true, cond, List, [], ◌∷◌, ◌++◌, map, length, take, set, Some, None, Option, sym, refl, ap, ◌∙◌, ⊎_elim, arith}
-use Rattle.std.proofs.lemmas.List.{length-map, length_push, map_push, same_from_push, take_more_set}
+use Rattle.std.proofs.Common.{MatchOption, ◌≡◌, ℕ, zero, suc, ◌+◌, ◌<◌, ◌≤◌, Bool, true, cond, List, [], ◌∷◌, ◌++◌, map, length, take, Some, None, Option, sym, refl, ap, ◌∙◌, ⊎_elim, arith}
+use Rattle.std.proofs.lemmas.List.{length-map, length_push, map_push, same_from_push}
 use Rattle.std.proofs.lemmas.Bool.{cases_lt, cases_order, eq-eqb}
+use Rattle.values.specs.declared.kinds.Kind.{Kind}
+use Rattle.schema.specs.declared.accessor.StructAccessor.{StructAccessor}
 use Rattle.schema.specs.declared.fields.Field.{Field}
 use Rattle.schema.specs.Lines.{parent_of, above, line, same_parent, tally, place}
 use Rattle.schema.proofs.Walks.{line_step, parent_earlier}
 
--- the places above a field stand first
-pub record Above (fs : List Field) (i n : ℕ) (places : List ℕ) : Type 0 where
-  pub size : n ≡ length (above (parent_of fs i) (line fs))
-  pub first : take n places ≡ map (place fs) (above (parent_of fs i) (line fs))
+-- an accessor leads to what stands above a field
+pub record Above (fs : List Field) (i : ℕ) (k : Kind) (a : StructAccessor) : Type 0 where
+  pub size : a.count ≡ length (above (parent_of fs i) (line fs))
+  pub first : take a.count a.places ≡ map (place fs) (above (parent_of fs i) (line fs))
+  pub kind : a.kind ≡ k
 
-pub at_top : (fs : List Field) (i n : ℕ) (places : List ℕ) → None ≡ parent_of fs i → n ≡ 0 → Above fs i n places
-at_top fs i n places o e = record { size = rw (← o, e) refl; first = rw (← o, e) refl }
+pub at_top : (fs : List Field) (i : ℕ) (k : Kind) (a b : StructAccessor) → None ≡ parent_of fs i → a ≡ b → b.count ≡ 0 → b.kind ≡ k → Above fs i k a
+at_top fs i k a b o e n s = record { size = rw (← o, e) n; first = rw (← o, e) (ap (λ m. take m b.places) n); kind = rw e s }
 
-pub under : (fs : List Field) (i p n m : ℕ) (places ps : List ℕ) → Some p ≡ parent_of fs i → n ≡ m → places ≡ ps → m ≡ length (line fs p) → take m ps ≡ map (place fs) (line fs p) → Above fs i n places
-under fs i p n m places ps o a b e w = record { size = rw (← o, a) e; first = rw (← o, a, b) w }
+pub under : (fs : List Field) (i p : ℕ) (k : Kind) (a b : StructAccessor) → Some p ≡ parent_of fs i → a ≡ b → (b.count ≡ length (line fs p)) × (take b.count b.places ≡ map (place fs) (line fs p)) × (b.kind ≡ k) → Above fs i k a
+under fs i p k a b o e h = record { size = rw (← o, e) h.0; first = rw (← o, e) h.1; kind = rw e h.2 }
 
 length-line : (fs : List Field) (i n : ℕ) → n ≡ length (above (parent_of fs i) (line fs)) → length (line fs i) ≡ n + 1
 length-line fs i n e = ap length (line_step fs i) ∙ length_push (above (parent_of fs i) (line fs)) i ∙ ap (λ k. k + 1) (sym e)
 
--- the field's own place is written after them
-pub written : (fs : List Field) (i n v len : ℕ) (places : List ℕ) → Above fs i n places → length places ≡ len → n < length places → v ≡ place fs i → (n + 1 ≤ len) × (n + 1 ≡ length (line fs i)) × (take (n + 1) (set places n v) ≡ map (place fs) (line fs i))
-written fs i n v len places a l h e = (
-  omega arith,
-  sym (length-line fs i n a.size),
-  take_more_set places n v h
-      ∙ ap (λ w. take n places ++ (w ∷ [])) e
-      ∙ ap (λ ps. ps ++ (place fs i ∷ [])) a.first
+-- and with the field's own place to the field, if it has room for it
+pub one_more : (fs : List Field) (i : ℕ) (k : Kind) (a : StructAccessor) (v : ℕ) (r : Option StructAccessor) → Above fs i k a → v ≡ place fs i → MatchOption r (a.count ≡ 8) (λ b. (b.count ≡ a.count + 1) × (take b.count b.places ≡ take a.count a.places ++ (v ∷ [])) × (b.kind ≡ a.kind)) → MatchOption r (8 < length (line fs i)) (λ b. (b.count ≡ length (line fs i)) × (take b.count b.places ≡ map (place fs) (line fs i)) × (b.kind ≡ k))
+one_more fs i k a v None h e full = omega (arith, length-line fs i a.count h.size)
+one_more fs i k a v (Some b) h e more = (
+  more.0 ∙ sym (length-line fs i a.count h.size),
+  more.1
+      ∙ ap (λ w. take a.count a.places ++ (w ∷ [])) e
+      ∙ ap (λ ps. ps ++ (place fs i ∷ [])) h.first
       ∙ sym (ap (map (place fs)) (line_step fs i) ∙ map_push (place fs) (above (parent_of fs i) (line fs)) i),
+  more.2 ∙ h.kind,
 )
-
--- no room for it
-pub too_long : (fs : List Field) (i n len : ℕ) (places : List ℕ) → Above fs i n places → length places ≡ len → length places ≤ n → len < length (line fs i)
-too_long fs i n len places a e h = omega (arith, length-line fs i n a.size)
 
 -- no room for those above it
 pub too_long_above : (fs : List Field) (i p len : ℕ) → Some p ≡ parent_of fs i → len < length (line fs p) → len < length (line fs i)

@@ -41,5 +41,5 @@ before fs t None = []
 before fs t (Some p) = full_name fs t p ++ (46 ∷ [])
 
 -- a name of which the end has been read
-abbrev pub rest : List Field → List ℕ → Tail → List ℕ
-rest fs t tail = before fs t tail.above ++ tail.left.now
+abbrev pub rest : Tail → List ℕ
+rest tail = before tail.schema.fields.now tail.schema.text.now tail.above ++ tail.left.now

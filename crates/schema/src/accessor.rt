@@ -1,5 +1,5 @@
 // The accessor of a primitive field.
-ghost use Rattle.std.specs.Prelude.{◌≡◌, ◌≤◌, take};
+ghost use Rattle.std.specs.Prelude.{◌≡◌, ◌+◌, ◌≤◌, ◌∷◌, [], ◌++◌, take, MatchOption};
 
 use values::kinds::Kind;
 
@@ -9,6 +9,7 @@ pub const MAX_PLACES: usize = 8;
 // The places from the top, group by group, and the kind of what is found.
 #[derive(Clone, Copy)]
 pub struct StructAccessor {
+    // nothing is allocated, and it is copied: fixed memory, and the count beside it
     pub(crate) places: [u16; MAX_PLACES],
     pub(crate) count: usize,
     pub(crate) kind: Kind,
@@ -16,6 +17,38 @@ pub struct StructAccessor {
 }
 
 impl StructAccessor {
+    // An accessor of no place yet.
+    pub(crate) fn of_kind(kind: Kind) -> StructAccessor
+        ensures has_no_place { result.count ≡ 0 }
+        ensures is_of_the_kind { result.kind ≡ kind }
+    {
+        StructAccessor {
+            places: [0; MAX_PLACES],
+            count: 0,
+            kind,
+        }
+    }
+
+    // The accessor with one more place, if it has room.
+    pub(crate) fn then(self, place: u16) -> Option<StructAccessor>
+        ensures has_one_more { MatchOption result (self.count ≡ 8) (λ a. (a.count ≡ self.count + 1) × (take a.count a.places ≡ take self.count self.places ++ (place ∷ [])) × (a.kind ≡ self.kind)) }
+    {
+        let StructAccessor {
+            mut places,
+            count,
+            kind,
+        } = self;
+        if count >= MAX_PLACES {
+            return None;
+        }
+        places[count] = place;
+        Some(StructAccessor {
+            places,
+            count: count + 1,
+            kind,
+        })
+    }
+
     pub fn places(&self) -> &[u16]
         ensures are_those_in_use { result.now ≡ take self.now.count self.now.places }
     {

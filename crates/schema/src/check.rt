@@ -5,91 +5,85 @@ ghost use Rattle.schema.specs.Rules.{Parent, Shallow, NewNumber, NewName, Keeps,
 ghost use Rattle.schema.specs.Listed.{Formed, ListedNumbers, Listed};
 ghost use Rattle.schema.specs.Theorems.{DescentOfLines, DescentOfNames, UniqueNumbers, UniqueNames, Reachable};
 
-use crate::fields::{Field, MAX_FIELDS, Schema, Shape};
-use crate::lines::field_at;
+use crate::fields::{MAX_FIELDS, Schema, Shape};
 use crate::policy::FullNames;
 use lists::list::{Offered, offer};
 use lists::numbers::Numbers;
 use values::refusals::{Reason, Refused};
 
-// Whether the parent, if the field has one, is an earlier struct.
-fn has_sound_parent(fields: &[Field], field: usize) -> bool
-    ensures decides_the_parent { Decides result (Parent fields.now field) }
-{
-    match field_at(fields, field).parent {
-        None => true,
-        Some(parent) => match field_at(fields, parent).shape {
-            Shape::Struct => parent < field,
-            _ => false,
-        },
-    }
+// The fields before one, each of a number and a full name of its own.
+#[derive(Clone, Copy)]
+struct Seen<'a> {
+    schema: Schema<'a>,
+    count: usize,
+    // nothing is allocated: fixed memory, and the count beside it
+    numbers: [u32; MAX_FIELDS],
+    names: [usize; MAX_FIELDS],
+    ghost lists_numbers: { ListedNumbers schema.fields.now count numbers },
+    ghost lists_names: { Listed count names },
 }
 
-// Offers the field's number to the list of those before it: whether it is new.
-fn is_new_number(fields: &[Field], field: usize, numbers: &mut [u32]) -> bool
-    requires lists_those_before { ListedNumbers fields.now field numbers.old }
-    requires has_room { field < length numbers.old }
-    ensures decides_the_number { Decides result (NewNumber fields.now field) }
-    ensures lists_a_new_one { result ≡ true → ListedNumbers fields.now (field + 1) numbers.new }
-{
-    match offer(&Numbers, numbers, 0, field, field_at(fields, field).number) {
-        Offered::Kept => true,
-        _ => false,
+impl<'a> Seen<'a> {
+    fn none(schema: Schema<'a>) -> Seen<'a>
+        ensures is_of_the_schema { result.schema ≡ schema.entry }
+        ensures begins_at_the_first { result.count ≡ 0 }
+    {
+        Seen {
+            schema,
+            count: 0,
+            numbers: [0; MAX_FIELDS],
+            names: [0; MAX_FIELDS],
+        }
+    }
+
+    // Whether the next field has a number and a full name that none before it has; then it is one of those before.
+    fn takes_next(&mut self) -> bool
+        requires has_room { self.old.count < 128 }
+        ensures decides_that_both_are_new { Decides result (NewNumber self.old.schema.fields.now self.old.count × NewName self.old.schema.fields.now self.old.schema.text.now self.old.count) }
+        ensures stays_of_the_schema { self.new.schema ≡ self.old.schema }
+        ensures counts_it { result ≡ true → self.new.count ≡ self.old.count + 1 }
+    {
+        let field = self.count;
+        let schema = self.schema;
+        let number = schema.field_at(field).number;
+        if offer(&Numbers, &mut self.numbers, 0..field, number) != Offered::Kept
+            || offer(&FullNames { schema }, &mut self.names, 0..field, field) != Offered::Kept
+        {
+            return false;
+        }
+        self.count += 1;
+        true
     }
 }
 
 impl<'a> Schema<'a> {
+    // Whether the parent, if the field has one, is an earlier struct.
+    fn has_sound_parent(&self, field: usize) -> bool
+        ensures decides_the_parent { Decides result (Parent self.now.fields.now field) }
+    {
+        // no `is_none_or`: after it a proof knows nothing of what this closure, which calls a method, answered
+        let Some(parent) = self.field_at(field).parent else {
+            return true;
+        };
+        parent < field && self.field_at(parent).shape == Shape::Struct
+    }
+
     // Whether the field, if primitive, has an accessor.
     fn is_shallow(&self, field: usize) -> bool
         requires is_small { field < 128 }
         ensures decides_the_depth { Decides result (Shallow self.now.fields.now field) }
     {
-        match field_at(self.fields, field).shape {
-            Shape::Primitive(_) => self.accessor(field).is_ok(),
-            _ => true,
-        }
+        !matches!(self.field_at(field).shape, Shape::Primitive(_)) || self.accessor(field).is_ok()
     }
 
     // Whether the field keeps the rules that ask nothing of other numbers and names.
     fn is_formed(&self, field: usize) -> bool
         ensures decides_the_form { Decides result (Formed self.now.fields.now self.now.text.now field) }
     {
-        if field >= MAX_FIELDS || !has_sound_parent(self.fields, field) {
-            return false;
-        }
-        let name = field_at(self.fields, field).name;
-        name.lies_inside(self.text.len()) && self.is_shallow(field)
-    }
-
-    // Offers the field to the list of those before it, which it may not equal in its full name.
-    fn is_new_name(&self, field: usize, names: &mut [usize]) -> bool
-        requires lists_those_before { Listed field names.old }
-        requires has_room { field < length names.old }
-        ensures decides_the_name { Decides result (NewName self.now.fields.now self.now.text.now field) }
-        ensures lists_a_new_one { result ≡ true → Listed (field + 1) names.new }
-    {
-        let full_names = FullNames { schema: *self };
-        match offer(&full_names, names, 0, field, field) {
-            Offered::Kept => true,
-            _ => false,
-        }
-    }
-
-    // Whether the field keeps every rule; then the lists of those before it list it too.
-    fn keeps_rules(&self, field: usize, numbers: &mut [u32], names: &mut [usize]) -> bool
-        requires lists_numbers_before { ListedNumbers self.now.fields.now field numbers.old }
-        requires lists_fields_before { Listed field names.old }
-        requires has_room { (128 ≤ length numbers.old) × (128 ≤ length names.old) }
-        ensures decides_the_rules { Decides result (Keeps self.now.fields.now self.now.text.now field) }
-        ensures lists_its_number { result ≡ true → ListedNumbers self.now.fields.now (field + 1) numbers.new }
-        ensures lists_the_field { result ≡ true → Listed (field + 1) names.new }
-    {
-        if !self.is_formed(field) {
-            return false;
-        }
-        let number = is_new_number(self.fields, field, numbers);
-        let name = self.is_new_name(field, names);
-        number && name
+        field < MAX_FIELDS
+            && self.has_sound_parent(field)
+            && self.field_at(field).name.lies_inside(self.text.len())
+            && self.is_shallow(field)
     }
 
     // Refuses the first field that breaks a rule or repeats a number or a full name.
@@ -102,14 +96,11 @@ impl<'a> Schema<'a> {
         ensures granted_names_are_unique { is_ok result ≡ true → UniqueNames self.now.fields.now self.now.text.now }
         ensures granted_primitive_fields_have_accessors { is_ok result ≡ true → Reachable self.now.fields.now }
     {
-        let mut numbers = [0u32; MAX_FIELDS];
-        let mut names = [0usize; MAX_FIELDS];
+        let mut before = Seen::none(*self);
+        // by its place: each rule asks of the field there and of those before it
         for place in 0..self.fields.len() {
-            if !self.keeps_rules(place, &mut numbers, &mut names) {
-                return Err(Refused {
-                    reason: Reason::SchemaRuleBroken,
-                    place,
-                });
+            if !self.is_formed(place) || !before.takes_next() {
+                return Err(Reason::SchemaRuleBroken.at(place));
             }
         }
         Ok(())

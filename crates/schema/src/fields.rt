@@ -3,7 +3,7 @@ use values::kinds::Kind;
 use values::literals::Span;
 
 // What a field holds.
-#[derive(Clone, Copy)]
+#[derive(Clone, Copy, PartialEq, Eq)]
 pub enum Shape {
     Primitive(Kind),
     Struct,

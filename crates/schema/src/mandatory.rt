@@ -3,13 +3,12 @@ ghost use Rattle.std.specs.Prelude.{◌≡◌};
 ghost use Rattle.schema.specs.Mandatory.{mandatory};
 
 use crate::fields::Schema;
-use crate::lines::field_at;
 
 impl<'a> Schema<'a> {
     // Whether no row may leave the field out.
     pub fn is_mandatory(&self, field: usize) -> bool
         ensures asks_the_field { result ≡ mandatory self.now.fields.now field }
     {
-        field_at(self.fields, field).required
+        self.field_at(field).required
     }
 }

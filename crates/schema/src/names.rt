@@ -1,9 +1,9 @@
 // Full names, read from their ends: so two can be compared without a copy of either.
-ghost use Rattle.std.specs.Prelude.{◌≡◌, [], ◌∷◌, ◌++◌, Decides, MatchOption};
+ghost use Rattle.std.specs.Prelude.{◌≡◌, Decides};
+ghost use Rattle.std.specs.Iterator.{YieldsLast, item_count};
 ghost use Rattle.schema.specs.Names.{full_name, letter, spelled, rest};
 
-use crate::fields::Field;
-use crate::lines::{field_at, parent_of};
+use crate::fields::Schema;
 
 // How letters are compared.
 #[derive(Clone, Copy)]
@@ -13,74 +13,64 @@ pub enum Case {
     Insensitive,
 }
 
-impl Case {
-    fn letter(self, byte: u8) -> u8
-        ensures is_as_compared { result ≡ letter self byte }
-    {
-        match (self, byte) {
-            (Case::Insensitive, b'A'..=b'Z') => byte + 32,
-            _ => byte,
-        }
-    }
-}
-
 // What is left of a name: bytes, and the field whose full name stands before them, parted by a dot.
 #[derive(Clone, Copy)]
 pub struct Tail<'a> {
+    pub schema: Schema<'a>,
     pub left: &'a [u8],
     pub above: Option<usize>,
 }
 
-// A field's full name.
-pub fn name_of<'a>(fields: &[Field], text: &'a [u8], field: usize) -> Tail<'a>
-    ensures is_the_full_name { rest fields.now text.now result ≡ full_name fields.now text.now field }
-{
-    Tail {
-        left: field_at(fields, field).name.of(text),
-        above: parent_of(fields, field),
-    }
-}
+// The bytes of what is left, the last first.
+impl<'a> Iterator for Tail<'a> {
+    type Item = u8;
 
-// The last byte, and what is left before it.
-fn back<'a>(fields: &[Field], text: &'a [u8], tail: Tail<'a>) -> Option<(u8, Tail<'a>)>
-    ensures parts_the_last { MatchOption result (rest fields.now text.now tail.entry ≡ []) (λ s. rest fields.now text.now tail.entry ≡ rest fields.now text.now s.1 ++ (s.0 ∷ [])) }
-{
-    let Tail { left, above } = tail;
-    let n = left.len();
-    if n > 0 {
-        let tail = Tail {
-            left: &left[0..n - 1],
-            above,
-        };
-        return Some((left[n - 1], tail));
-    }
-    match above {
-        None => None,
-        Some(field) => Some((b'.', name_of(fields, text, field))),
-    }
-}
+    ghost next_gives = { YieldsLast rest };
 
-// Whether two names are spelled alike.
-pub fn is_same_name<'a>(
-    fields: &[Field],
-    text: &'a [u8],
-    case: Case,
-    a: Tail<'a>,
-    b: Tail<'a>,
-) -> bool
-    ensures compares_whole_names { Decides result (spelled case (rest fields.now text.now a.entry) ≡ spelled case (rest fields.now text.now b.entry)) }
-{
-    let mut a = a;
-    let mut b = b;
-    while let Some((x, before_x)) = back(fields, text, a) {
-        let Some((y, before_y)) = back(fields, text, b) else {
-            return false;
-        };
-        if case.letter(x) != case.letter(y) {
-            return false;
+    ghost remaining = { item_count rest };
+
+    fn next(&mut self) -> Option<u8> {
+        match self.left.split_last() {
+            Some((&last, left)) => {
+                self.left = left;
+                Some(last)
+            }
+            None => {
+                let above = self.above?;
+                *self = self.schema.name_of(above);
+                Some(b'.')
+            }
         }
-        a = before_x;
-        b = before_y;
     }
-    back(fields, text, b).is_none()
+}
+
+impl<'a> Schema<'a> {
+    // A field's full name.
+    pub(crate) fn name_of(&self, field: usize) -> Tail<'a>
+        ensures is_the_full_name { rest result ≡ full_name self.now.fields.now self.now.text.now field }
+    {
+        Tail {
+            schema: *self,
+            left: self.field_at(field).name.of(self.text),
+            above: self.parent_of(field),
+        }
+    }
+}
+
+impl Case {
+    fn letter(self, byte: u8) -> u8
+        ensures is_as_compared { result ≡ letter self byte }
+    {
+        match self {
+            Case::Sensitive => byte,
+            Case::Insensitive => byte.to_ascii_lowercase(),
+        }
+    }
+
+    // Whether two names are spelled alike.
+    pub fn is_same<'a>(self, a: Tail<'a>, b: Tail<'a>) -> bool
+        ensures compares_whole_names { Decides result (spelled self (rest a.entry) ≡ spelled self (rest b.entry)) }
+    {
+        a.map(|x| self.letter(x)).eq(b.map(|y| self.letter(y)))
+    }
 }

@@ -4,7 +4,7 @@ ghost use Rattle.schema.specs.Names.{full_name};
 ghost use Rattle.schema.specs.Equals.{bytes_reflexive, bytes_symmetric, bytes_transitive};
 
 use crate::fields::Schema;
-use crate::names::{Case, is_same_name, name_of};
+use crate::names::Case;
 use lists::policy::{Equality, Reflexive, Test};
 
 // Fields of a schema by their places in its table.
@@ -19,15 +19,7 @@ impl<'a> Test for FullNames<'a> {
     ghost passed = { λ s i j. bytes_eq (full_name s.schema.fields.now s.schema.text.now i) (full_name s.schema.fields.now s.schema.text.now j) };
 
     fn passes(&self, earlier: &usize, later: &usize) -> bool {
-        let fields = self.schema.fields;
-        let text = self.schema.text;
-        is_same_name(
-            fields,
-            text,
-            Case::Sensitive,
-            name_of(fields, text, *earlier),
-            name_of(fields, text, *later),
-        )
+        Case::Sensitive.is_same(self.schema.name_of(*earlier), self.schema.name_of(*later))
     }
 }
 

@@ -1,28 +1,23 @@
-use Rattle.std.proofs.Common.{false, [], arith}
+use Rattle.std.proofs.Common.{length, rules, tests, ◌∙◌}
+use native.Mathlib.Nat.{sub-zero}
+use Rattle.std.proofs.lemmas.Iterator.{YieldsList-from_range}
+use Rattle.std.proofs.lemmas.Iterator.Search.{find_from_yields_List}
 use Rattle.schema.specs.declared.names.Case.TheVariants.{Sensitive}
 use Rattle.schema.specs.Lookups.{is_named}
-use Rattle.schema.proofs.Finds.{found_first, found_none, found_only}
-use Rattle.schema.proofs.Hits.{hits_more}
+use Rattle.schema.proofs.Finds.{first_named, found_only}
+use Rattle.schema.proofs.Hits.{found_first}
 use Rattle.schema.proofs.fields.Schema.field_by_name.Goals as goal
-
-pub loop-field-preserved : goal.loop-field-preserved
-loop-field-preserved c =
-    hits_more (is_named Sensitive c.args.self.now.fields.now c.args.self.now.text.now c.args.name.now) c.loop-field.field [] false c.loop-field.invariant c.if-is_named.ensures.compares_the_full_name
-
-pub returns-then-is_named : goal.returns-then-is_named
-returns-then-is_named c =
-    let found = found_first _ _ _ _ c.loop-field.invariant c.if-is_named.ensures.compares_the_full_name c.loop-field-test.true in
-    record {
-      is_the_first_of_that_name = found.0;
-      tells_of_full_names = found.1;
-      is_the_only_one_in_a_sound_schema = found_only _ _ _ _ found.1;
-    }
 
 pub returns : goal.returns
 returns c =
-    let found = found_none c.args.self.now.fields.now c.args.self.now.text.now c.args.name.now c.loop-field.field c.loop-field.invariant (omega (arith, c.loop-field.auto.field-end)) in
+    let fs = c.args.self.now.fields.now in
+    let t = c.args.self.now.text.now in
+    let name = c.args.name.now in
+    let p = is_named Sensitive fs t name in
+    let found = find_from_yields_List p _ _ c.find.result c.find.ensures.ran (YieldsList-from_range 0 (length fs) (length fs) (cc) (sub-zero (length fs))) (λ j b q k. search (rules, tests)) in
+    let is = c.ok_or.ensures.value ∙ found_first p (length fs) c.find.result found in
     record {
-      is_the_first_of_that_name = found.0;
-      tells_of_full_names = found.1;
-      is_the_only_one_in_a_sound_schema = found_only _ _ _ _ found.1;
+      is_the_first_of_that_name = is;
+      tells_of_full_names = first_named fs t name c.ok_or.result is;
+      is_the_only_one_in_a_sound_schema = found_only fs t name c.ok_or.result (first_named fs t name c.ok_or.result is);
     }

@@ -1,30 +1,41 @@
-use Rattle.std.proofs.Common.{true, false, [], ap, ◌∙◌, arith}
-use Rattle.std.proofs.lemmas.List.{append-nil}
-use Rattle.std.specs.Option.{option_to_list}
+use Rattle.std.proofs.Common.{◌≡◌, Err, length, rules, tests, sym, ap, ◌∙◌}
+use Rattle.values.specs.declared.refusals.Reason.TheVariants.{NameNotFound}
 use Rattle.schema.specs.declared.names.Case.TheVariants.{Insensitive}
-use Rattle.schema.specs.Lookups.{is_named}
-use Rattle.schema.proofs.Finds.{found_two, found_once}
-use Rattle.schema.proofs.Hits.{hits_more}
+use Rattle.schema.specs.Lookups.{is_named, only_of}
+use Rattle.schema.proofs.Finds.{named_once}
+use Rattle.schema.proofs.Hits.{found_none, found_one, found_two, was_none, was_some}
 use Rattle.schema.proofs.fields.Schema.field_by_name_case_insensitive.Goals as goal
-use Rattle.schema.proofs.fields.Schema.field_by_name_case_insensitive.Goals.{then-is_named+in-None, else-is_named}
 
-pub loop-field-preserved : goal.loop-field-preserved
-loop-field-preserved c =
-    elim c.if-is_named.branch [
-      | then-is_named+in-None w ↦
-          rw w.found-is
-          (hits_more (is_named Insensitive c.args.self.now.fields.now c.args.self.now.text.now c.args.name.now) c.loop-field.field [] true (c.loop-field.invariant ∙ ap option_to_list w.in-None.is) w.if-is_named.ensures.compares_the_full_name)
-      | else-is_named w ↦
-          rw w.found-is
-          (hits_more (is_named Insensitive c.args.self.now.fields.now c.args.self.now.text.now c.args.name.now) c.loop-field.field (option_to_list c.loop-field.found) false c.loop-field.invariant w.if-is_named.ensures.compares_the_full_name ∙ append-nil _)
-    ]
+pub returns-in_err-field : goal.returns-in_err-field
+returns-in_err-field c =
+    let fs = c.args.self.now.fields.now in
+    let t = c.args.self.now.text.now in
+    let name = c.args.name.now in
+    let p = is_named Insensitive fs t name in
+    let none = was_none c.next.result _ c.ok_or.result c.ok_or.ensures.value c.in_err-field.was in
+    let all = found_none _ p (length fs) _ _ none.0 c.next.ensures.steps c.filter-found.ensures.source c.filter-found.ensures.closure (λ j b q k. search (rules, tests)) in
+    let refused : c.from_residual.result ≡ Err NameNotFound = search (rules, none.1) in
+    let is = refused ∙ ap only_of (sym all) in
+    record { is_the_only_one_of_that_name = is; tells_of_lowered_names = named_once fs t name _ is }
+
+pub returns-in-None : goal.returns-in-None
+returns-in-None c =
+    let fs = c.args.self.now.fields.now in
+    let t = c.args.self.now.text.now in
+    let name = c.args.name.now in
+    let p = is_named Insensitive fs t name in
+    let some = was_some c.next.result c.in_ok-field.field c.ok_or.result c.ok_or.ensures.value c.in_ok-field.was in
+    let all = found_one _ p (length fs) _ _ _ _ c.in_ok-field.field some c.next.ensures.steps c.in-None.is c.next-2.ensures.steps c.filter-found.ensures.source c.filter-found.ensures.closure (λ j b q k. search (rules, tests)) in
+    let is = ap only_of (sym all) in
+    record { is_the_only_one_of_that_name = is; tells_of_lowered_names = named_once fs t name _ is }
 
 pub returns-in-Some : goal.returns-in-Some
 returns-in-Some c =
-    let found = found_two _ _ _ _ _ _ c.loop-field.invariant c.in-Some.is c.if-is_named.ensures.compares_the_full_name c.loop-field-test.true in
-    record { is_the_only_one_of_that_name = found.0; tells_of_lowered_names = found.1 }
-
-pub returns : goal.returns
-returns c =
-    let found = found_once c.args.self.now.fields.now c.args.self.now.text.now c.args.name.now c.loop-field.field c.loop-field.found c.ok_or.result c.loop-field.invariant (omega (arith, c.loop-field.auto.field-end)) c.ok_or.ensures.value in
-    record { is_the_only_one_of_that_name = found.0; tells_of_lowered_names = found.1 }
+    let fs = c.args.self.now.fields.now in
+    let t = c.args.self.now.text.now in
+    let name = c.args.name.now in
+    let p = is_named Insensitive fs t name in
+    let some = was_some c.next.result c.in_ok-field.field c.ok_or.result c.ok_or.ensures.value c.in_ok-field.was in
+    let all = found_two _ p (length fs) _ _ _ _ c.in_ok-field.field _ some c.next.ensures.steps c.in-Some.is c.next-2.ensures.steps c.filter-found.ensures.source c.filter-found.ensures.closure (λ j b q k. search (rules, tests)) in
+    let is = ap only_of (sym all) in
+    record { is_the_only_one_of_that_name = is; tells_of_lowered_names = named_once fs t name _ is }

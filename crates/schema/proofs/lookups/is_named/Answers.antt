@@ -1,7 +1,0 @@
-use Rattle.std.proofs.Common.{refl}
-use Rattle.schema.proofs.Ends.{named_as}
-use Rattle.schema.proofs.lookups.is_named.Goals as goal
-
-pub returns : goal.returns
-returns c =
-    record { compares_the_full_name = named_as c.args.case _ _ _ c.args.name.now c.is_same_name.result c.is_same_name.ensures.compares_whole_names c.name_of.ensures.is_the_full_name refl }

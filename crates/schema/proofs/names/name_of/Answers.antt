@@ -1,8 +1,0 @@
-use Rattle.schema.proofs.Ends.{name_step}
-use Rattle.schema.proofs.names.name_of.Goals as goal
-
-pub returns : goal.returns
-returns c =
-    record {
-      is_the_full_name = rw (c.parent_of.ensures.is_the_earlier_parent, c.of.ensures.are_the_bytes_there, c.field_at.ensures.is_the_field_there) (name_step c.args.fields.now c.args.text.now c.args.field);
-    }
