@@ -1,13 +1,13 @@
 -- Picking the places of what a list keeps, and copying what is picked.
-use Rattle.std.proofs.Common.{◌≡◌, ℕ, zero, suc, ◌+◌, ◌<◌, ◌≤◌, Bool, true, false, leb, List, [], ◌∷◌, ◌++◌, length, get_or, take, drop, set, Some, None, Option, sym, refl, ap, ◌∙◌, subst, add-zero, arith}
-use native.Mathlib.Nat.{sub-zero}
-use Rattle.std.proofs.lemmas.List.{at_drop_more, at_drop_all, length-set, append_assoc, append-nil, length-append, take_more_set, take-append-drop, set_at, length-take-le, drop_more, take_more, length_push, take_all}
+use Rattle.std.proofs.Common.{◌≡◌, ℕ, zero, suc, ◌+◌, ◌<◌, ◌≤◌, Bool, true, false, leb, List, [], ◌∷◌, ◌++◌, length, get_or, take, drop, set, Some, None, Option, sym, refl, ap, ◌∙◌, subst, arith}
+use Rattle.std.proofs.lemmas.List.{at_drop_more, at_drop_all, length-set, append_assoc, append-nil, length-append, take_more_set, set_at, length-take-le, drop_more, take_more, length_push}
 use Rattle.std.proofs.lemmas.Bool.{le-leb, lt-leb}
 use Rattle.std.proofs.lemmas.Option.{slice_get_read}
 use Rattle.std.specs.List.{slice_get}
 use Rattle.lists.specs.declared.list.Offered.TheVariants.{Kept, Dropped, Full}
 use Rattle.lists.specs.Keep.{against, fresh, kept, run, offered, placed, laid_end, laid}
 use Rattle.lists.specs.Picks.{alike, before, chosen, Below}
+use Rattle.lists.proofs.Runs.{from_zero}
 use Rattle.lists.proofs.Tells.{was_dropped, was_kept, was_full}
 
 pub below_at : (n : ℕ) (is : List ℕ) (i : ℕ) → Below n is → i < length is → get_or is i 0 < n
@@ -69,9 +69,6 @@ placed_push items start xs x h =
     ∙ ap (λ zs. take start items ++ zs) (sym (append_assoc xs (x ∷ []) rest))
     ∙ ap (λ k. take start items ++ ((xs ++ (x ∷ [])) ++ drop k items)) more
 
-pub placed_none : {X : Type 0} (items : List X) (start : ℕ) → placed items start [] ≡ items
-placed_none items start = ap (λ k. take start items ++ drop k items) (add-zero start) ∙ take-append-drop start items
-
 -- one more element copied
 pub copied_more : {X : Type 0} (items now_items xs : List X) (start : ℕ) (is : List ℕ) (j : ℕ) (y : X) → j < length is → Below (length xs) is → start + length is ≤ length items → y ≡ get_or xs (get_or is j 0) y → now_items ≡ placed items start (chosen xs (take j is)) → set now_items (start + j) y ≡ placed items start (chosen xs (take (j + 1) is))
 copied_more items now_items xs start is j y h b room e inv =
@@ -81,9 +78,6 @@ copied_more items now_items xs start is j y h b room e inv =
     ∙ ap (λ k. set (placed items start so_far) (start + k) y) (sym len)
     ∙ placed_push items start so_far y (omega arith)
     ∙ ap (placed items start) (sym (chosen_push xs (take j is) (get_or is j 0) y (below_at (length xs) is j b h) e) ∙ ap (chosen xs) (sym (take_more is j 0 h)))
-
-pub copied_all : {X : Type 0} (items xs : List X) (start : ℕ) (is : List ℕ) (j : ℕ) → length is ≤ j → placed items start (chosen xs (take j is)) ≡ placed items start (chosen xs is)
-copied_all items xs start is j h = ap (λ zs. placed items start (chosen xs zs)) (take_all j is h)
 
 -- so many places are picked, the elements from i on to come
 pub record Going {X : Type 0} (p : X → X → Bool) (xs : List X) (len : ℕ) (picks : List ℕ) (end i : ℕ) : Type 0 where
@@ -97,10 +91,6 @@ dropped p held xs i x h e t = at_drop_more (fresh p held) xs i x h ∙ rw (← e
 
 kept_next : {X : Type 0} (p : X → X → Bool) (held xs : List X) (i : ℕ) (x : X) → i < length xs → x ≡ get_or xs i x → against p held x ≡ false → fresh p held (drop i xs) ≡ x ∷ fresh p (held ++ (x ∷ [])) (drop (i + 1) xs)
 kept_next p held xs i x h e t = at_drop_more (fresh p held) xs i x h ∙ rw (← e, t) refl
-
--- the list picked lies from the first cell on
-from_zero : {X : Type 0} (items : List X) (end : ℕ) → run items 0 end ≡ take end items
-from_zero items end = ap (λ n. take n items) (sub-zero end)
 
 -- a place that is offered: its element passes against those chosen as the place against those picked
 offered-chosen : {X : Type 0} (p : X → X → Bool) (xs : List X) (len : ℕ) (picks : List ℕ) (end i : ℕ) (x : X) (b : Bool) → Going p xs len picks end i → slice_get xs i ≡ Some x → against (alike p xs) (run picks 0 end) i ≡ b → against p (chosen xs (take end picks)) x ≡ b

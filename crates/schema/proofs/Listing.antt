@@ -1,7 +1,6 @@
 -- The lists of the fields before one, to which it is offered.
-use Rattle.std.proofs.Common.{◌≡◌, ℕ, zero, suc, ◌+◌, ◌<◌, ◌≤◌, Bool, true, false, cond, ◌≢◌, List, [], ◌∷◌, length, get_or, take, set, Decides, eqb, refl, ap, ◌∙◌, ⊎_elim, arith}
-use native.Mathlib.Nat.{sub-zero}
-use Rattle.std.proofs.lemmas.List.{get_or-take, get_or-set_same, get_or-set_other, length-take-le}
+use Rattle.std.proofs.Common.{◌≡◌, ℕ, zero, suc, ◌<◌, Bool, true, false, cond, List, [], ◌∷◌, length, get_or, take, Decides, eqb, refl, ap, ◌∙◌, ⊎_elim, arith}
+use Rattle.std.proofs.lemmas.List.{get_or-take, length-take-le}
 use Rattle.std.proofs.lemmas.Slice.Eq.{bytes_eq-Decides}
 use Rattle.std.proofs.lemmas.Bool.Decides.{Decides-eqb}
 use Rattle.std.specs.Str.{bytes_eq}
@@ -10,13 +9,14 @@ use Rattle.schema.specs.Lines.{field_at}
 use Rattle.schema.specs.Listed.{ListedNumbers, Listed}
 use Rattle.schema.specs.Names.{full_name}
 use Rattle.schema.specs.Rules.{NewNumber, NewName}
-use Rattle.std.proofs.lemmas.Bool.{both_ways, cases_Bool, cases_lt, le-leb, lt-ltb, or_parts, or_cases}
+use Rattle.std.proofs.lemmas.Bool.{both_ways, cases_Bool, le-leb, lt-ltb, or_parts, or_cases}
 use Rattle.lists.specs.declared.list.Offered.{Offered}
 use Rattle.lists.specs.declared.list.Offered.TheVariants.{Kept, Dropped, Full}
 use Rattle.lists.specs.contracts.list.Offered.{the_type}
 use denote.Enum.Bare.{sameb}
 use Rattle.schema.proofs.Decisions.{never}
-use Rattle.lists.specs.Keep.{against, run, offered}
+use Rattle.lists.proofs.Runs.{from_zero}
+use Rattle.lists.specs.Keep.{against, offered}
 
 -- an element that passes against none of a list
 against-none : (p : ℕ → ℕ → Bool) (xs : List ℕ) (x k : ℕ) → against p xs x ≡ false → k < length xs → p (get_or xs k 0) x ≡ true → ⊥
@@ -33,15 +33,12 @@ against-some p (y ∷ ys) x e =
     (λ t. let later = against-some p ys x t in (suc later.0, omega (arith, later.1), later.2))
     (or_cases (p y x) (against p ys x) e)
 
-from_zero : (items : List ℕ) (i : ℕ) → run items 0 i ≡ take i items
-from_zero items i = ap (λ n. take n items) (sub-zero i)
-
 -- where the list has room, an element that equals none of it is kept
 answer : (p : ℕ → ℕ → Bool) (items : List ℕ) (i x : ℕ) → i < length items → offered p items 0 i x ≡ cond (against p (take i items) x) Dropped Kept
 answer p items i x h = rw (from_zero items i, le-leb 0 i (omega arith), lt-ltb i (length items) h) refl
 
 -- `f` of each number below i stands in the list: then an offer of that of i tells whether `Same` holds of one before it
-pub kept_new : (f : ℕ → ℕ) (p : ℕ → ℕ → Bool) (Same : ℕ → Type 0) (items : List ℕ) (i : ℕ) → ((j : ℕ) → Decides (p (f j) (f i)) (Same j)) → ((j : ℕ) → j < i → get_or items j 0 ≡ f j) → i < length items → (x : ℕ) → x ≡ f i → Kept ≡ offered p items 0 i x → (j : ℕ) → j < i → Same j → ⊥
+kept_new : (f : ℕ → ℕ) (p : ℕ → ℕ → Bool) (Same : ℕ → Type 0) (items : List ℕ) (i : ℕ) → ((j : ℕ) → Decides (p (f j) (f i)) (Same j)) → ((j : ℕ) → j < i → get_or items j 0 ≡ f j) → i < length items → (x : ℕ) → x ≡ f i → Kept ≡ offered p items 0 i x → (j : ℕ) → j < i → Same j → ⊥
 kept_new f p Same items i decides listed h x e o j l s =
     let short : length (take i items) ≡ i = length-take-le i items (omega arith) in
     against-none p (take i items) (f i) j (is_kept (against p (take i items) (f i)) (o ∙ ap (offered p items 0 i) e ∙ answer p items i (f i) h)) (omega arith) (rw (get_or-take i items j 0 l, listed j l) ((decides j).1 s))
@@ -50,7 +47,7 @@ kept_new f p Same items i decides listed h x e o j l s =
     is_kept true e = cc
     is_kept false e = refl
 
-pub refused_old : (f : ℕ → ℕ) (p : ℕ → ℕ → Bool) (Same : ℕ → Type 0) (items : List ℕ) (i : ℕ) (o : Offered) → ((j : ℕ) → Decides (p (f j) (f i)) (Same j)) → ((j : ℕ) → j < i → get_or items j 0 ≡ f j) → i < length items → (x : ℕ) → x ≡ f i → o ≡ offered p items 0 i x → (o ≡ Kept → ⊥) → ((j : ℕ) → j < i → Same j → ⊥) → ⊥
+refused_old : (f : ℕ → ℕ) (p : ℕ → ℕ → Bool) (Same : ℕ → Type 0) (items : List ℕ) (i : ℕ) (o : Offered) → ((j : ℕ) → Decides (p (f j) (f i)) (Same j)) → ((j : ℕ) → j < i → get_or items j 0 ≡ f j) → i < length items → (x : ℕ) → x ≡ f i → o ≡ offered p items 0 i x → (o ≡ Kept → ⊥) → ((j : ℕ) → j < i → Same j → ⊥) → ⊥
 refused_old f p Same items i o decides listed h x is e lost new =
     let short : length (take i items) ≡ i = length-take-le i items (omega arith) in
     ⊎_elim
@@ -60,13 +57,6 @@ refused_old f p Same items i o decides listed h x is e lost new =
     new old.0 l ((decides old.0).0 (rw (get_or-take i items old.0 0 l, listed old.0 l) at old.2)))
     (λ (t : against p (take i items) (f i) ≡ false). lost (e ∙ ap (offered p items 0 i) is ∙ answer p items i (f i) h ∙ ap (λ b. cond b Dropped Kept) t))
     (cases_Bool (against p (take i items) (f i)))
-
-pub listed_more : (f : ℕ → ℕ) (items : List ℕ) (i x : ℕ) → ((j : ℕ) → j < i → get_or items j 0 ≡ f j) → i < length items → x ≡ f i → (j : ℕ) → j < i + 1 → get_or (set items i x) j 0 ≡ f j
-listed_more f items i x listed h e j l =
-    ⊎_elim
-    (λ (k : j < i). let other : j ≢ i = omega arith in get_or-set_other items i j x 0 other ∙ listed j k)
-    (λ (k : i ≤ j). let same : j ≡ i = omega arith in rw same (get_or-set_same items i x 0 h ∙ e))
-    (cases_lt j i)
 
 -- so the answer to the offer decides it
 offered_new : (f : ℕ → ℕ) (p : ℕ → ℕ → Bool) (Same : ℕ → Type 0) (items : List ℕ) (i : ℕ) (o : Offered) → ((j : ℕ) → Decides (p (f j) (f i)) (Same j)) → ((j : ℕ) → j < i → get_or items j 0 ≡ f j) → i < length items → (x : ℕ) → x ≡ f i → o ≡ offered p items 0 i x → Decides (sameb the_type o Kept) ((j : ℕ) → j < i → Same j → ⊥)

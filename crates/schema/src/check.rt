@@ -12,7 +12,7 @@ use lists::numbers::Numbers;
 use values::refusals::{Reason, Refused};
 
 // The fields before one, each of a number and a full name of its own.
-#[derive(Clone, Copy)]
+#[derive(Drop)]
 struct Seen<'a> {
     schema: Schema<'a>,
     count: usize,
