@@ -4,6 +4,7 @@
 #[cfg(test)]
 mod tests {
     use schema::fields::{Field, Schema, Shape};
+    use std::array;
     use values::kinds::Kind;
     use values::literals::Span;
     use values::refusals::Reason;
@@ -21,54 +22,51 @@ mod tests {
         }
     }
 
-    // The number and the place of the refusal, if the fields with names in this text are refused.
-    fn fault<'a>(fields: &'a [Field], text: &'a [u8]) -> Option<(u8, usize)> {
-        let schema = Schema { fields, text };
-        match schema.check() {
-            Ok(()) => None,
-            Err(refused) => Some((refused.reason.number(), refused.place)),
-        }
+    // The check of the fields with names in this text: the number and the place of a refusal.
+    fn checked<'a>(fields: &'a [Field], text: &'a [u8]) -> Result<(), (u8, usize)> {
+        Schema { fields, text }
+            .check()
+            .map_err(|refused| (refused.reason.number(), refused.place))
     }
 
     fn numbered(r: Result<usize, Reason>) -> Result<usize, u8> {
-        match r {
-            Ok(field) => Ok(field),
-            Err(reason) => Err(reason.number()),
-        }
+        r.map_err(|reason| reason.number())
     }
 
     // Whether the field has an accessor of these places.
     fn leads(schema: &Schema, field: usize, places: &[u16]) -> bool {
-        match schema.accessor(field) {
-            Ok(accessor) => accessor.places() == places,
-            Err(_) => false,
-        }
+        schema
+            .accessor(field)
+            .is_ok_and(|accessor| accessor.places() == places)
     }
 
     #[test]
     fn parents(rt: HostRuntime) {
         let text = b"ab";
         let top = field(1, 0, 1, None, Shape::Struct);
-        assert_eq!(rt; fault(&[top, field(2, 1, 1, Some(0), INT)], text), None);
-        assert_eq!(rt; fault(&[field(2, 1, 1, Some(0), INT)], text), Some((17, 0)));
+        assert_eq!(rt; checked(&[top, field(2, 1, 1, Some(0), INT)], text), Ok(()));
         assert_eq!(rt;
-            fault(&[field(2, 1, 1, Some(1), INT), top], text),
-            Some((17, 0))
+            checked(&[field(2, 1, 1, Some(0), INT)], text),
+            Err((17, 0))
+        );
+        assert_eq!(rt;
+            checked(&[field(2, 1, 1, Some(1), INT), top], text),
+            Err((17, 0))
         );
         let list = field(1, 0, 1, None, Shape::ListOrMap);
         assert_eq!(rt;
-            fault(&[list, field(2, 1, 1, Some(0), INT)], text),
-            Some((17, 1))
+            checked(&[list, field(2, 1, 1, Some(0), INT)], text),
+            Err((17, 1))
         );
     }
 
     #[test]
     fn names_inside(rt: HostRuntime) {
-        assert_eq!(rt; fault(&[field(1, 1, 2, None, INT)], b"abc"), None);
-        assert_eq!(rt; fault(&[field(1, 1, 3, None, INT)], b"abc"), Some((17, 0)));
+        assert_eq!(rt; checked(&[field(1, 1, 2, None, INT)], b"abc"), Ok(()));
+        assert_eq!(rt; checked(&[field(1, 1, 3, None, INT)], b"abc"), Err((17, 0)));
         assert_eq!(rt;
-            fault(&[field(1, usize::MAX, 2, None, INT)], b"abc"),
-            Some((17, 0))
+            checked(&[field(1, usize::MAX, 2, None, INT)], b"abc"),
+            Err((17, 0))
         );
     }
 
@@ -77,52 +75,52 @@ mod tests {
         let a = field(1, 0, 1, None, INT);
         let b = field(2, 1, 1, None, INT);
         assert_eq!(rt;
-            fault(&[a, b, field(1, 2, 1, None, INT)], b"abc"),
-            Some((17, 2))
+            checked(&[a, b, field(1, 2, 1, None, INT)], b"abc"),
+            Err((17, 2))
         );
         assert_eq!(rt;
-            fault(&[a, b, field(3, 1, 1, None, INT)], b"abc"),
-            Some((17, 2))
+            checked(&[a, b, field(3, 1, 1, None, INT)], b"abc"),
+            Err((17, 2))
         );
         assert_eq!(rt;
-            fault(&[a, a, field(3, 9, 1, None, INT)], b"abc"),
-            Some((17, 1))
+            checked(&[a, a, field(3, 9, 1, None, INT)], b"abc"),
+            Err((17, 1))
         );
         let whole = field(1, 0, 3, None, INT);
         let group = field(2, 0, 1, None, Shape::Struct);
         assert_eq!(rt;
-            fault(&[whole, group, field(3, 2, 1, Some(1), INT)], b"a.c"),
-            Some((17, 2))
+            checked(&[whole, group, field(3, 2, 1, Some(1), INT)], b"a.c"),
+            Err((17, 2))
         );
         assert_eq!(rt;
-            fault(&[whole, group, field(3, 0, 1, Some(1), INT)], b"a.c"),
-            None
+            checked(&[whole, group, field(3, 0, 1, Some(1), INT)], b"a.c"),
+            Ok(())
         );
     }
 
     #[test]
     fn number_of_fields(rt: HostRuntime) {
-        let mut fields = [field(0, 0, 0, None, INT); 129];
-        for i in 0..129 {
-            fields[i] = field(i as u32, 0, i, None, INT);
-        }
+        let fields: [Field; 129] = array::from_fn(|i| field(i as u32, 0, i, None, INT));
         let text = [b'a'; 128];
-        assert_eq!(rt; fault(&fields[0..128], &text), None);
-        assert_eq!(rt; fault(&fields, &text), Some((17, 128)));
+        assert_eq!(rt; checked(&fields[0..128], &text), Ok(()));
+        assert_eq!(rt; checked(&fields, &text), Err((17, 128)));
     }
 
     #[test]
     fn depth(rt: HostRuntime) {
         let text = [b'a'; 9];
-        let mut fields = [field(0, 0, 1, None, Shape::Struct); 9];
-        for i in 1..9 {
-            fields[i] = field(i as u32, 0, i, Some(i - 1), Shape::Struct);
-        }
-        assert_eq!(rt; fault(&fields, &text), None);
+        let mut fields: [Field; 9] = array::from_fn(|i| field(
+            i as u32,
+            0,
+            i.max(1),
+            i.checked_sub(1),
+            Shape::Struct,
+        ));
+        assert_eq!(rt; checked(&fields, &text), Ok(()));
         fields[8] = field(8, 0, 8, Some(7), INT);
-        assert_eq!(rt; fault(&fields, &text), Some((17, 8)));
+        assert_eq!(rt; checked(&fields, &text), Err((17, 8)));
         fields[7] = field(7, 0, 7, Some(6), INT);
-        assert_eq!(rt; fault(&fields[0..8], &text), None);
+        assert_eq!(rt; checked(&fields[0..8], &text), Ok(()));
     }
 
     #[test]
