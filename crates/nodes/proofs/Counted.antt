@@ -99,9 +99,6 @@ module _ {T : Type 0} where
   pub counted_none : (xs : List (Slot T)) → Counted (replicate {A = ℕ} 256 0) xs 0
   counted_none xs = record { long = length-replicate {A = ℕ} 256 0; count = λ n h. get_or-replicate {A = ℕ} 256 n 0 0 h }
 
-  pub counted_all : (cs : List ℕ) (xs : List (Slot T)) (i : ℕ) → Counted cs xs i → length xs ≤ i → i ≤ length xs → (n : ℕ) → n < 256 → get_or cs n 0 ≡ parents xs (length xs) n
-  counted_all cs xs i c h l = let e : i ≡ length xs = omega arith in subst (λ k. (n : ℕ) → n < 256 → get_or cs n 0 ≡ parents xs k n) e c.count
-
   -- the same of the used part of a table
   parents_part : (c : ℕ) (xs : List (Slot T)) (k n : ℕ) → k ≤ c → parents (take c xs) k n ≡ parents xs k n
   parents_part c xs zero n h = refl

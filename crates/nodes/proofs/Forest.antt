@@ -272,11 +272,6 @@ none_of : (c : ℕ) → (1 ≤ c → ⊥) → c ≡ 0
 none_of zero h = refl
 none_of (suc c) h = absurd (h (omega arith))
 
-pub alive_or : (m : Mark) → Alive m ⊎ (m ≡ Struck)
-alive_or Stands = inl tt
-alive_or Joined = inl tt
-alive_or Struck = inr refl
-
 used-one : (l k : ℕ) → 1 ≤ bit (eqb l k) → l ≡ k
 used-one l k h = elim (decide l k) [ inl e ↦ e | inr e ↦ let z = bit-zero l k e in absurd (omega arith) ]
 

@@ -1,13 +1,11 @@
 -- The filter at a number of a table.
-use Rattle.std.proofs.Common.{◌≡◌, ℕ, zero, suc, ◌<◌, ◌≤◌, Bool, true, false, cond, ◌&&◌, eqb, ltb, List, length, get_or, sym, refl, ap, ◌∙◌, subst, ap₂, arith, eqb-true}
-use lib.ListN.{get_or-eq_default}
+use Rattle.std.proofs.Common.{◌≡◌, ℕ, zero, suc, ◌<◌, ◌≤◌, Bool, true, false, cond, eqb, List, length, get_or, sym, refl, ap, ◌∙◌, subst, ap₂, arith, eqb-true}
 use borrow.Author.Tests.{eqb-false}
 use borrow.Author.Rules.{get_or_read}
 use Rattle.filters.specs.Placed.{Form, always, test, both, either, other, Placed, constant_at, condition_at, and_node_at, or_node_at, not_node_at, root, In, Apart, Sound, Holds}
 use Rattle.filters.proofs.Placed.{in_le, frame}
 use Rattle.nodes.specs.declared.slots.Slot.{Slot}
 use Rattle.nodes.specs.Tables.{grown, below, filter_of, nowhere, at, nodes, filter_at}
-use Rattle.nodes.specs.Soundness.{is_standing, stands}
 use Rattle.nodes.specs.Filters.{Whole, constant_of, head}
 
 module _ {X : Type 0} where
@@ -175,14 +173,6 @@ module _ {T : Type 0} where
 
   pub inside_low : (xs : List (Slot T)) (n : ℕ) → Whole xs n → (k : ℕ) → In k (filter_at xs n) → k < length xs
   inside_low xs n w k i = let h = inside_all xs n w k i in let j = w.inside in omega arith
-
-  -- past the table's end nothing stands
-  pub past_end : (xs : List (Slot T)) (used n : ℕ) → length xs ≤ n → false ≡ stands xs used n
-  past_end xs used n h = by (ltb n used)
-    where
-      by : (b : Bool) → false ≡ b && is_standing (at xs n).mark
-      by true = sym (ap (λ (s : Slot T). is_standing s.mark) (get_or-eq_default xs nowhere {n = n} h))
-      by false = refl
 
   -- a slot as the code reads it
   pub read : (xs : List (Slot T)) (n : ℕ) (s : Slot T) → n < length xs → s ≡ get_or xs n s → at xs n ≡ s

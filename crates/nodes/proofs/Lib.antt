@@ -1,5 +1,4 @@
 pub mod Order
-pub mod Every
 pub mod Counted
 pub mod Found
 pub mod Lowest

@@ -1,11 +1,12 @@
 -- The check of a table, and what it says.
-use Rattle.std.proofs.Common.{◌≡◌, ℕ, zero, suc, ◌-◌, ◌<◌, ◌≤◌, min, Bool, true, false, ◌&&◌, eqb, leb, List, length, take, Some, None, Option, sym, refl, ap, ◌∙◌, subst, ap₂, arith, eq-eqb, ne_eqb, eqb-true, le-leb, leb-true}
+use Rattle.std.proofs.Common.{◌≡◌, ℕ, zero, suc, ◌<◌, ◌≤◌, min, Bool, true, false, ◌&&◌, eqb, leb, List, length, get_or, take, Some, None, Option, sym, refl, ap, ◌∙◌, subst, ap₂, arith, eq-eqb, ne_eqb, eqb-true, get_or-take, length-take, le-leb, leb-true}
 use borrow.Author.Tests.{eqb-false, lt-leb}
 use Rattle.values.specs.declared.literals.Literal.{Literal}
 use Rattle.nodes.specs.declared.slots.Slot.{Slot}
-use Rattle.nodes.specs.Tables.{Held, at, form, nodes}
+use Rattle.nodes.specs.Tables.{Held, nowhere, at, form, nodes}
 use Rattle.nodes.specs.Soundness.{fits, bit, parents, is_joined, in_order, sound_at, else_at, lowest, node_room, literal_room, used_of, unsound}
 use Rattle.nodes.proofs.Counted.{part_count}
+use Rattle.nodes.proofs.Found.{read}
 use Rattle.nodes.proofs.Order.{Ordered, Fitting, both_true, order_below, order_fit, in_order_of}
 
 -- what the check says of the nodes and their marks
@@ -51,78 +52,97 @@ module _ {T : Type 0} (within : T → Bool) (text : ℕ) (ls : List Literal) (st
   abbrev counts_fit : List (Slot T) → ℕ → Bool
   counts_fit xs used = leb used (node_room xs) && leb stored (literal_room ls)
 
+  -- the tables, cut to what there may be of them
+  pub record Cut (xs : List (Slot T)) (used k held : ℕ) : Type 0 where
+    pub nodes_cut : k ≡ min used (node_room xs)
+    pub literals_cut : held ≡ min stored (literal_room ls)
+
+  pub cut : (xs : List (Slot T)) (used k held rm lr : ℕ) → rm ≡ node_room xs → k ≡ min used rm → lr ≡ literal_room ls → held ≡ min stored lr → Cut xs used k held
+  cut xs used k held rm lr er ek el eh = record { nodes_cut = ek ∙ ap (min used) er; literals_cut = eh ∙ ap (min stored) el }
+
+module _ {T : Type 0} {within : T → Bool} {text : ℕ} {ls : List Literal} {stored : ℕ} where
   -- the check, as the code goes
-  module _ (xs : List (Slot T)) (used k held rm lr : ℕ) (er : rm ≡ node_room xs) (ek : k ≡ min used rm) (el : lr ≡ literal_room ls) (eh : held ≡ min stored lr) where
-    is_k : k ≡ min used (node_room xs)
-    is_k = ek ∙ ap (min used) er
+  module _ {xs : List (Slot T)} {used k held : ℕ} (c : Cut within text ls stored xs used k held) where
+    is_fit : fits within text (take held ls) ≡ fit within text ls stored
+    is_fit = ap (λ j. fits within text (take j ls)) c.literals_cut
 
-    is_fit : fits within text (take (held - 0) ls) ≡ fit
-    is_fit = ap (λ j. fits within text (take j ls)) (let z : held - 0 ≡ min stored (literal_room ls) = omega (arith, eh ∙ ap (min stored) el) in z)
+    below_cut : (n : ℕ) → n < length (take k xs) → n < k
+    below_cut n h = let d = length-take k xs in omega arith
 
-    module _ (n : ℕ) (s : Slot T) (es : at xs n ≡ s) where
-      order_is : (b : Bool) → b ≡ in_order (fits within text (take (held - 0) ls)) (form s.node) n → in_order fit (nodes xs n) n ≡ b
-      order_is b e = sym (e ∙ ap₂ (λ f (u : Slot T). in_order f (form u.node) n) is_fit (sym es))
+    -- a node, as the code reads it
+    module _ {n : ℕ} {s : Slot T} (h : n < length (take k xs)) (e : s ≡ get_or (take k xs) n s) where
+      es : at xs n ≡ s
+      es = sym (get_or-take k xs n nowhere (below_cut n h)) ∙ read (take k xs) n s h e
 
-      count_is : (v j : ℕ) → v ≡ parents (take (k - 0) xs) (length (take (k - 0) xs)) n → j ≡ bit (is_joined s.mark) → eqb (parents xs k n) (bit (is_joined (at xs n).mark)) ≡ eqb v j
+      order_is : (b : Bool) → b ≡ in_order (fits within text (take held ls)) (form s.node) n → in_order (fit within text ls stored) (nodes xs n) n ≡ b
+      order_is b o = sym (o ∙ ap₂ (λ f (u : Slot T). in_order f (form u.node) n) is_fit (sym es))
+
+      count_is : (v j : ℕ) → (n < 256 → v ≡ parents (take k xs) (length (take k xs)) n) → j ≡ bit (is_joined s.mark) → eqb (parents xs k n) (bit (is_joined (at xs n).mark)) ≡ eqb v j
       count_is v j ev ej =
-          let z : k - 0 ≡ k = omega arith in
-          let w = part_count k xs n v (omega (arith, is_k)) (subst (λ i. v ≡ parents (take i xs) (length (take i xs)) n) z ev) in
+          let z = c.nodes_cut in
+          let l = below_cut n h in
+          let w = part_count k xs n v (omega arith) (ev (omega arith)) in
           ap₂ eqb (sym w) (sym (ej ∙ ap (λ (u : Slot T). bit (is_joined u.mark)) (sym es)))
 
-      pub not_ordered : false ≡ in_order (fits within text (take (held - 0) ls)) (form s.node) n → sound_at fit xs k n ≡ false
-      not_ordered e = ap (λ b. b && eqb (parents xs k n) (bit (is_joined (at xs n).mark))) (order_is false e)
+      pub not_ordered : false ≡ in_order (fits within text (take held ls)) (form s.node) n → sound_at (fit within text ls stored) xs k n ≡ false
+      not_ordered o = ap (λ b. b && eqb (parents xs k n) (bit (is_joined (at xs n).mark))) (order_is false o)
 
-      pub not_counted : (v j : ℕ) → true ≡ in_order (fits within text (take (held - 0) ls)) (form s.node) n → v ≡ parents (take (k - 0) xs) (length (take (k - 0) xs)) n → j ≡ bit (is_joined s.mark) → (v ≡ j → ⊥) → sound_at fit xs k n ≡ false
-      not_counted v j e ev ej ne = ap₂ ◌&&◌ (order_is true e) (count_is v j ev ej ∙ ne_eqb v j ne)
+      pub not_counted : (v j : ℕ) → true ≡ in_order (fits within text (take held ls)) (form s.node) n → (n < 256 → v ≡ parents (take k xs) (length (take k xs)) n) → j ≡ bit (is_joined s.mark) → (v ≡ j → ⊥) → sound_at (fit within text ls stored) xs k n ≡ false
+      not_counted v j o ev ej ne = ap₂ ◌&&◌ (order_is true o) (count_is v j ev ej ∙ ne_eqb v j ne)
 
-      pub counted : (v j : ℕ) → true ≡ in_order (fits within text (take (held - 0) ls)) (form s.node) n → v ≡ parents (take (k - 0) xs) (length (take (k - 0) xs)) n → j ≡ bit (is_joined s.mark) → v ≡ j → sound_at fit xs k n ≡ true
-      counted v j e ev ej d = ap₂ ◌&&◌ (order_is true e) (count_is v j ev ej ∙ eq-eqb v j d)
+      pub counted : (v j : ℕ) → true ≡ in_order (fits within text (take held ls)) (form s.node) n → (n < 256 → v ≡ parents (take k xs) (length (take k xs)) n) → j ≡ bit (is_joined s.mark) → v ≡ j → sound_at (fit within text ls stored) xs k n ≡ true
+      counted v j o ev ej d = ap₂ ◌&&◌ (order_is true o) (count_is v j ev ej ∙ eq-eqb v j d)
 
-    module _ (n : ℕ) (e : lowest (sound_at fit xs k) n ≡ None) where
-      pub check_hit : n < k → sound_at fit xs k n ≡ false → Some n ≡ unsound within text xs used ls stored
+    module _ {n : ℕ} (e : lowest (sound_at (fit within text ls stored) xs k) n ≡ None) where
+      pub check_hit : n < length (take k xs) → sound_at (fit within text ls stored) xs k n ≡ false → Some n ≡ unsound within text xs used ls stored
       unfolding unsound
-      check_hit h d = sym (subst (λ j. else_at (lowest (sound_at fit xs j) j) (counts_fit xs used) j ≡ Some n) is_k (ap (λ o. else_at o (counts_fit xs used) k) (lowest_hit (sound_at fit xs k) k n e d h)))
+      check_hit h d = sym (subst (λ j. else_at (lowest (sound_at (fit within text ls stored) xs j) j) (counts_fit within text ls stored xs used) j ≡ Some n) c.nodes_cut (ap (λ o. else_at o (counts_fit within text ls stored xs used) k) (lowest_hit (sound_at (fit within text ls stored) xs k) k n e d (below_cut n h))))
 
-      check_all : k ≤ n → n ≤ k → (b : Bool) → counts_fit xs used ≡ b → else_at None b k ≡ unsound within text xs used ls stored
+      check_all : length (take k xs) ≤ n → n ≤ length (take k xs) → (b : Bool) → counts_fit within text ls stored xs used ≡ b → else_at None b k ≡ unsound within text xs used ls stored
       unfolding unsound
-      check_all h i b f = let d : n ≡ k = omega arith in sym (subst (λ j. else_at (lowest (sound_at fit xs j) j) (counts_fit xs used) j ≡ else_at None b k) is_k (ap₂ (λ o c. else_at o c k) (subst (λ j. lowest (sound_at fit xs k) j ≡ None) d e) f))
+      check_all h i b f =
+          let l = length-take k xs in
+          let z = c.nodes_cut in
+          let d : n ≡ k = omega arith in
+          sym (subst (λ j. else_at (lowest (sound_at (fit within text ls stored) xs j) j) (counts_fit within text ls stored xs used) j ≡ else_at None b k) c.nodes_cut (ap₂ (λ o f. else_at o f k) (subst (λ j. lowest (sound_at (fit within text ls stored) xs k) j ≡ None) d e) f))
 
-      pub check_none : k ≤ n → n ≤ k → used ≡ k → stored ≡ held → None ≡ unsound within text xs used ls stored
-      check_none h i d f = check_all h i true (ap₂ ◌&&◌ (le-leb used (node_room xs) (omega (arith, is_k))) (le-leb stored (literal_room ls) (omega arith)))
+      pub check_none : length (take k xs) ≤ n → n ≤ length (take k xs) → used ≡ k → stored ≡ held → None ≡ unsound within text xs used ls stored
+      check_none h i u d = let y = c.nodes_cut in let z = c.literals_cut in check_all h i true (ap₂ ◌&&◌ (le-leb used (node_room xs) (omega arith)) (le-leb stored (literal_room ls) (omega arith)))
 
-      pub check_nodes : k ≤ n → n ≤ k → (used ≡ k → ⊥) → Some k ≡ unsound within text xs used ls stored
-      check_nodes h i ne = check_all h i false (ap (λ b. b && leb stored (literal_room ls)) (lt-leb used (node_room xs) (omega (arith, is_k))))
+      pub check_nodes : length (take k xs) ≤ n → n ≤ length (take k xs) → (used ≡ k → ⊥) → Some k ≡ unsound within text xs used ls stored
+      check_nodes h i ne = let z = c.nodes_cut in check_all h i false (ap (λ b. b && leb stored (literal_room ls)) (lt-leb used (node_room xs) (omega arith)))
 
-      pub check_literals : k ≤ n → n ≤ k → used ≡ k → (stored ≡ held → ⊥) → Some k ≡ unsound within text xs used ls stored
-      check_literals h i d ne = check_all h i false (ap₂ ◌&&◌ (le-leb used (node_room xs) (omega (arith, is_k))) (lt-leb stored (literal_room ls) (omega arith)))
+      pub check_literals : length (take k xs) ≤ n → n ≤ length (take k xs) → used ≡ k → (stored ≡ held → ⊥) → Some k ≡ unsound within text xs used ls stored
+      check_literals h i d ne = let y = c.nodes_cut in let z = c.literals_cut in check_all h i false (ap₂ ◌&&◌ (le-leb used (node_room xs) (omega arith)) (lt-leb stored (literal_room ls) (omega arith)))
 
+module _ {T : Type 0} (within : T → Bool) (text : ℕ) (ls : List Literal) (stored : ℕ) where
   -- what the check says of the nodes
-  pub passed : (xs : List (Slot T)) (used : ℕ) → unsound within text xs used ls stored ≡ None → Sane xs used × Fitting fit xs used × (stored ≤ literal_room ls)
+  pub passed : (xs : List (Slot T)) (used : ℕ) → unsound within text xs used ls stored ≡ None → Sane xs used × Fitting (fit within text ls stored) xs used × (stored ≤ literal_room ls)
   unfolding unsound
   passed xs used e =
       let m = min used (node_room xs) in
-      let d = else_none (sound_at fit xs m) (lowest (sound_at fit xs m) m) (counts_fit xs used) m e in
+      let d = else_none (sound_at (fit within text ls stored) xs m) (lowest (sound_at (fit within text ls stored) xs m) m) (counts_fit within text ls stored xs used) m e in
       let b = both_true (leb used (node_room xs)) (leb stored (literal_room ls)) d.1 in
       let l : used ≤ node_room xs = leb-true used (node_room xs) b.0 in
       let w : m ≡ used = omega arith in
-      let a = none_each (sound_at fit xs used) used (subst (λ j. lowest (sound_at fit xs j) j ≡ None) w d.0) in
-      let two : (n : ℕ) → n < used → (in_order fit (nodes xs n) n ≡ true) × (eqb (parents xs used n) (bit (is_joined (at xs n).mark)) ≡ true) = λ n h. both_true (in_order fit (nodes xs n) n) (eqb (parents xs used n) (bit (is_joined (at xs n).mark))) (a n h) in (
+      let a = none_each (sound_at (fit within text ls stored) xs used) used (subst (λ j. lowest (sound_at (fit within text ls stored) xs j) j ≡ None) w d.0) in
+      let two : (n : ℕ) → n < used → (in_order (fit within text ls stored) (nodes xs n) n ≡ true) × (eqb (parents xs used n) (bit (is_joined (at xs n).mark)) ≡ true) = λ n h. both_true (in_order (fit within text ls stored) (nodes xs n) n) (eqb (parents xs used n) (bit (is_joined (at xs n).mark))) (a n h) in (
         record {
           fits = omega arith;
           few = omega arith;
-          order = λ n h. order_below fit (nodes xs n) n (two n h).0;
+          order = λ n h. order_below (fit within text ls stored) (nodes xs n) n (two n h).0;
           count = λ n h. eqb-true (parents xs used n) (bit (is_joined (at xs n).mark)) (two n h).1;
         },
-        λ n h. order_fit fit (nodes xs n) n (two n h).0,
+        λ n h. order_fit (fit within text ls stored) (nodes xs n) n (two n h).0,
         leb-true stored (literal_room ls) b.1,
       )
 
-  pub passes : (xs : List (Slot T)) (used : ℕ) → Sane xs used → Fitting fit xs used → stored ≤ literal_room ls → unsound within text xs used ls stored ≡ None
+  pub passes : (xs : List (Slot T)) (used : ℕ) → Sane xs used → Fitting (fit within text ls stored) xs used → stored ≤ literal_room ls → unsound within text xs used ls stored ≡ None
   unfolding unsound
   passes xs used s f r =
       let x = s.fits in
       let y = s.few in
       let l : used ≤ node_room xs = omega arith in
       let m : used ≡ min used (node_room xs) = omega arith in
-      let a = each_none (sound_at fit xs used) used (λ n h. ap₂ ◌&&◌ (in_order_of fit (nodes xs n) n (s.order n h) (f n h)) (eq-eqb (parents xs used n) (bit (is_joined (at xs n).mark)) (s.count n h))) in
-      ap₂ (λ o b. else_at o b (min used (node_room xs))) (subst (λ j. lowest (sound_at fit xs j) j ≡ None) m a) (ap₂ ◌&&◌ (le-leb used (node_room xs) l) (le-leb stored (literal_room ls) r))
+      let a = each_none (sound_at (fit within text ls stored) xs used) used (λ n h. ap₂ ◌&&◌ (in_order_of (fit within text ls stored) (nodes xs n) n (s.order n h) (f n h)) (eq-eqb (parents xs used n) (bit (is_joined (at xs n).mark)) (s.count n h))) in
+      ap₂ (λ o b. else_at o b (min used (node_room xs))) (subst (λ j. lowest (sound_at (fit within text ls stored) xs j) j ≡ None) m a) (ap₂ ◌&&◌ (le-leb used (node_room xs) l) (le-leb stored (literal_room ls) r))

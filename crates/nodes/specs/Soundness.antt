@@ -1,5 +1,6 @@
 -- Which node of a book's tables is unsound.
-use Rattle.std.specs.Prelude.{ℕ, zero, suc, ◌+◌, min, Bool, true, false, cond, ◌&&◌, List, [], ◌∷◌, length, take, drop, Some, None, Option, ◌==◌, nat_le, nat_lt}
+use Rattle.std.specs.Prelude.{ℕ, zero, suc, ◌+◌, min, Bool, true, false, cond, ◌&&◌, List, length, take, drop, Some, None, Option, ◌==◌, nat_le, nat_lt}
+use Rattle.std.specs.List.{list_all}
 use Rattle.values.specs.declared.literals.Literal.{Literal}
 use Rattle.values.specs.Contents.{text_inside}
 use Rattle.filters.specs.Placed.{Form, always, test, both, either, other}
@@ -10,13 +11,9 @@ use Rattle.nodes.specs.Operators.{is_unary, is_binary, is_set}
 use Rattle.nodes.specs.Conditions.{unary, binary, among}
 use Rattle.nodes.specs.Tables.{Held, at, form, nodes}
 
-abbrev pub every : {X : Type 0} → (X → Bool) → List X → Bool
-every p [] = true
-every p (x ∷ xs) = p x && every p xs
-
 -- so many literals from a number on are there, and their text lies inside the text of so many bytes
 abbrev pub literals_in : ℕ → List Literal → ℕ → ℕ → Bool
-literals_in text ls start count = nat_le (start + count) (length ls) && every (λ l. text_inside text l.value) (take count (drop start ls))
+literals_in text ls start count = nat_le (start + count) (length ls) && list_all (λ l. text_inside text l.value) (take count (drop start ls))
 
 -- the operator is of the condition's family, the term lies inside its tables, and so do the literals
 abbrev pub fits : {T : Type 0} → (T → Bool) → ℕ → List Literal → Held T → Bool

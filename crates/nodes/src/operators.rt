@@ -34,42 +34,55 @@ impl PredicateOperator {
     pub fn is_unary(self) -> bool
         ensures is_of_the_unary_family { result ≡ is_unary self }
     {
-        self.number() < 201
+        matches!(
+            self,
+            Self::IsNull | Self::NotNull | Self::IsNan | Self::NotNan
+        )
     }
 
     // Whether it tests the column against one literal.
     pub fn is_binary(self) -> bool
         ensures is_of_the_binary_family { result ≡ is_binary self }
     {
-        self.number() > 104 && self.number() < 301
+        matches!(
+            self,
+            Self::LessThan
+                | Self::LessThanOrEq
+                | Self::GreaterThan
+                | Self::GreaterThanOrEq
+                | Self::Eq
+                | Self::NotEq
+                | Self::StartsWith
+                | Self::NotStartsWith
+        )
     }
 
     // Whether it tests the column against a set of literals.
     pub fn is_set(self) -> bool
         ensures is_of_the_set_family { result ≡ is_set self }
     {
-        self.number() > 208
+        matches!(self, Self::In | Self::NotIn)
     }
 
     // The operator that says the opposite.
-    pub fn negate(self) -> PredicateOperator
+    pub fn negate(self) -> Self
         ensures says_the_opposite { result ≡ inverse self }
     {
         match self {
-            PredicateOperator::IsNull => PredicateOperator::NotNull,
-            PredicateOperator::NotNull => PredicateOperator::IsNull,
-            PredicateOperator::IsNan => PredicateOperator::NotNan,
-            PredicateOperator::NotNan => PredicateOperator::IsNan,
-            PredicateOperator::LessThan => PredicateOperator::GreaterThanOrEq,
-            PredicateOperator::LessThanOrEq => PredicateOperator::GreaterThan,
-            PredicateOperator::GreaterThan => PredicateOperator::LessThanOrEq,
-            PredicateOperator::GreaterThanOrEq => PredicateOperator::LessThan,
-            PredicateOperator::Eq => PredicateOperator::NotEq,
-            PredicateOperator::NotEq => PredicateOperator::Eq,
-            PredicateOperator::StartsWith => PredicateOperator::NotStartsWith,
-            PredicateOperator::NotStartsWith => PredicateOperator::StartsWith,
-            PredicateOperator::In => PredicateOperator::NotIn,
-            PredicateOperator::NotIn => PredicateOperator::In,
+            Self::IsNull => Self::NotNull,
+            Self::NotNull => Self::IsNull,
+            Self::IsNan => Self::NotNan,
+            Self::NotNan => Self::IsNan,
+            Self::LessThan => Self::GreaterThanOrEq,
+            Self::LessThanOrEq => Self::GreaterThan,
+            Self::GreaterThan => Self::LessThanOrEq,
+            Self::GreaterThanOrEq => Self::LessThan,
+            Self::Eq => Self::NotEq,
+            Self::NotEq => Self::Eq,
+            Self::StartsWith => Self::NotStartsWith,
+            Self::NotStartsWith => Self::StartsWith,
+            Self::In => Self::NotIn,
+            Self::NotIn => Self::In,
         }
     }
 }

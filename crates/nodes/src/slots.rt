@@ -21,7 +21,7 @@ pub enum Node<T> {
     Set(PredicateOperator, T, Run),
 }
 
-#[derive(Clone, Copy)]
+#[derive(Clone, Copy, PartialEq, Eq)]
 pub enum Mark {
     // a filter
     Standing,

@@ -1,5 +1,5 @@
 use Rattle.nodes.proofs.Counted.{Counted}
 use Rattle.nodes.proofs.sound.parents.Given as goal
 
-abbrev pub invariant-loop-i : goal.invariant-loop-i
-invariant-loop-i g l = Counted l.counts l.slots l.i
+abbrev pub invariant-loop-slot : goal.invariant-loop-slot
+invariant-loop-slot g l = Counted l.counts l.slots l.slot-index
