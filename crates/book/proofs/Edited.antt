@@ -1,17 +1,22 @@
 -- What the edits do to the table, node by node.
-use Rattle.std.proofs.Common.{◌≡◌, ℕ, ◌<◌, Bool, true, false, eqb, ltb, List, length, set, sym, refl, ap, ◌∙◌, subst, ap₂, inl, inr, length-set, get_or-set_other, get_or-set_same, ltb-false, ltb-true, eqb-true}
+use Rattle.std.proofs.Common.{◌≡◌, ℕ, ◌<◌, Bool, true, false, eqb, ltb, List, length, get_or, set, sym, refl, ap, ◌∙◌, subst, ap₂, inl, inr, arith, length-set, get_or-set_other, get_or-set_same, ltb-false, ltb-true, eqb-true}
+use mathlib.Core.Logic.{◌⊎◌}
+use Rattle.std.proofs.lemmas.List.{get_or_default}
 use lib.Seq.{set_out}
 use borrow.Author.Tests.{eqb-false}
-use Rattle.filters.specs.Placed.{Placed, constant_at, condition_at, and_node_at, or_node_at, not_node_at, root, In, negated_placed}
+use Rattle.filters.specs.Placed.{both, either, Placed, constant_at, condition_at, and_node_at, or_node_at, not_node_at, root, In, negated_placed}
 use Rattle.nodes.specs.declared.slots.Mark.{Mark}
 use Rattle.nodes.specs.declared.slots.Mark.TheVariants.{Struck}
 use Rattle.nodes.specs.declared.slots.Node.{Node}
+use Rattle.nodes.specs.declared.slots.Node.TheVariants.{AlwaysTrue, AlwaysFalse, And, Or, Not, Unary, Binary, Set}
 use Rattle.nodes.specs.declared.slots.Slot.{Slot}
-use Rattle.nodes.specs.Conditions.{opposite}
+use Rattle.nodes.specs.Conditions.{unary, binary, among, opposite}
 use Rattle.nodes.specs.Tables.{Held, slot, nowhere, at, form, nodes, filter_at}
 use Rattle.nodes.specs.Filters.{Whole}
-use Rattle.book.specs.Edits.{marked, struck, negation}
-use Rattle.nodes.proofs.Found.{Two, Same, unchanged}
+use Rattle.book.specs.declared.edits.Connective.{Connective}
+use Rattle.book.specs.declared.edits.Connective.TheVariants as C
+use Rattle.book.specs.Edits.{marked, struck, negation, join, join_at}
+use Rattle.nodes.proofs.Found.{at_always, at_test, at_both, at_either, Two, two_and, two_or, Same, unchanged, inside_all}
 
 module _ {T : Type 0} where
   pub set_here : (xs : List (Slot T)) (n : ℕ) (s : Slot T) → n < length xs → at (set xs n s) n ≡ s
@@ -97,49 +102,102 @@ module _ {T : Type 0} where
     pub second_negated : Same xs next r
     second_negated = unchanged xs next r two.second (negation_length (filter_at xs l) xs) (λ k i. ap (λ s. form s.node) (negation_there (filter_at xs l) xs k (λ j. two.apart k j i)))
 
-  pub read_node : (xs : List (Slot T)) (n : ℕ) (s : Slot T) (m : Node T) → at xs n ≡ s → s.node ≡ m → nodes xs n ≡ form m
-  read_node xs n s m e d = ap (λ u. form u.node) e ∙ ap form d
+  -- a node, as the code reads it
+  pub read_node : (xs : List (Slot T)) (n : ℕ) (d : Slot T) (m : Node T) → n < length xs → (get_or xs n d).node ≡ m → nodes xs n ≡ form m
+  read_node xs n d m h e = ap (λ (s : Slot T). form s.node) (get_or_default xs n nowhere d h) ∙ ap form e
+
+  -- a mark, as the code writes it
+  pub mark_is : (xs : List (Slot T)) (n : ℕ) (d : Slot T) (m : Mark) → n < length xs → set xs n (slot (get_or xs n d).node m) ≡ marked n m xs
+  mark_is xs n d m h = ap (λ (s : Slot T). set xs n (slot s.node m)) (get_or_default xs n d nowhere h)
+
+  -- a node read after its mark was written
+  pub read_cut : (xs : List (Slot T)) (n : ℕ) (s d : Slot T) (m : Node T) → n < length xs → (get_or (set xs n (slot (get_or xs n s).node Struck)) n d).node ≡ m → nodes xs n ≡ form m
+  read_cut xs n s d m h e = read_node xs n s m h (sym (ap (λ (u : Slot T). u.node) (get_or-set_same xs n (slot (get_or xs n s).node Struck) d h)) ∙ e)
+
+  -- a join of two inputs
+  pub record Joins (xs : List (Slot T)) (n l r : ℕ) : Type 0 where
+    pub by : Connective
+    pub is : nodes xs n ≡ form (join by l r)
+
+  pub joins_cut : (xs : List (Slot T)) (n : ℕ) (s d : Slot T) (l r l' r' : ℕ) → n < length xs → ((get_or (set xs n (slot (get_or xs n s).node Struck)) n d).node ≡ And l r) ⊎ ((get_or (set xs n (slot (get_or xs n s).node Struck)) n d).node ≡ Or l r) → l' ≡ l → r' ≡ r → Joins xs n l' r'
+  joins_cut xs n s d l r l' r' h (inl e) f g = record { by = C.And; is = read_cut xs n s d _ h e ∙ ap₂ both (sym f) (sym g) }
+  joins_cut xs n s d l r l' r' h (inr e) f g = record { by = C.Or; is = read_cut xs n s d _ h e ∙ ap₂ either (sym f) (sym g) }
+
+  -- a join matched with its connective
+  pub read_join : (xs : List (Slot T)) (n : ℕ) (d : Slot T) (c : Connective) (l r : ℕ) (t : Connective × ℕ × ℕ) → n < length xs → (get_or xs n d).node ≡ join c l r → t ≡ (c, l, r) → nodes xs n ≡ form (join t.0 t.1 t.2)
+  read_join xs n d c l r t h e f = read_node xs n d (join c l r) h e ∙ sym (ap (λ (u : Connective × ℕ × ℕ). form (join u.0 u.1 u.2)) f)
+
+  pub two_join : (xs : List (Slot T)) (n : ℕ) (c : Connective) (l r : ℕ) → nodes xs n ≡ form (join c l r) → Whole xs n → Two xs n l r
+  two_join xs n C.And l r e w = two_and xs n l r e w
+  two_join xs n C.Or l r e w = two_or xs n l r e w
+
+  pub at_join : (xs : List (Slot T)) (n : ℕ) (c : Connective) (l r : ℕ) → nodes xs n ≡ form (join c l r) → Two xs n l r → filter_at xs n ≡ join_at c n (filter_at xs l) (filter_at xs r)
+  at_join xs n C.And l r e two = at_both (nodes xs) n l r e two.left two.right
+  at_join xs n C.Or l r e two = at_either (nodes xs) n l r e two.left two.right
+
+  -- a node with no inputs
+  pub data Leaf (xs : List (Slot T)) (n : ℕ) : Type 0 where
+    constant_leaf : (b : Bool) → filter_at xs n ≡ constant_at n b → Leaf xs n
+    condition_leaf : (c : Held T) → filter_at xs n ≡ condition_at n c → Leaf xs n
+
+  pub leaf : (xs : List (Slot T)) (n : ℕ) (m : Node T) → nodes xs n ≡ form m → ((l r : ℕ) → m ≡ And l r → ⊥) → ((l r : ℕ) → m ≡ Or l r → ⊥) → ((i : ℕ) → m ≡ Not i → ⊥) → Leaf xs n
+  leaf xs n AlwaysTrue e a o i = constant_leaf true (at_always (nodes xs) n true e)
+  leaf xs n AlwaysFalse e a o i = constant_leaf false (at_always (nodes xs) n false e)
+  leaf xs n (And l r) e a o i = absurd (a l r refl)
+  leaf xs n (Or l r) e a o i = absurd (o l r refl)
+  leaf xs n (Not k) e a o i = absurd (i k refl)
+  leaf xs n (Unary o t) e a b i = condition_leaf (unary o t) (at_test (nodes xs) n (unary o t) e)
+  leaf xs n (Binary o t k) e a b i = condition_leaf (binary o t k) (at_test (nodes xs) n (binary o t k) e)
+  leaf xs n (Set o t k) e a b i = condition_leaf (among o t k) (at_test (nodes xs) n (among o t k) e)
 
   -- striking, as the code goes
-  module _ (xs : List (Slot T)) (n : ℕ) (s : Slot T) (e : at xs n ≡ s) where
-    abbrev cut : List (Slot T)
-    cut = set xs n (slot s.node Struck)
+  pub strike_leaf : (xs ys : List (Slot T)) (n : ℕ) → ys ≡ marked n Struck xs → Leaf xs n → ys ≡ struck (filter_at xs n) xs
+  strike_leaf xs ys n e (constant_leaf b d) = e ∙ sym (ap (λ p. struck p xs) d)
+  strike_leaf xs ys n e (condition_leaf c d) = e ∙ sym (ap (λ p. struck p xs) d)
 
-    pub cut_is : marked n Struck xs ≡ cut
-    cut_is = ap (λ (u : Slot T). set xs n (slot u.node Struck)) e
+  module _ (xs : List (Slot T)) (n : ℕ) {ys : List (Slot T)} (e : ys ≡ marked n Struck xs) where
+    module _ {l r : ℕ} (two : Two xs n l r) where
+      pub strike_first : Whole ys l
+      strike_first = subst (λ us. Whole us l) (sym e) (first_struck xs n l r two).whole
 
-    module _ (l r : ℕ) (two : Two xs n l r) where
-      pub strike_first : Whole cut l
-      strike_first = subst (λ ys. Whole ys l) cut_is (first_struck xs n l r two).whole
+      pub strike_second : {zs : List (Slot T)} → zs ≡ struck (filter_at ys l) ys → Whole zs r
+      strike_second d = subst (λ us. Whole us r) (sym (d ∙ ap (λ us. struck (filter_at us l) us) e)) (second_struck xs n l r two).whole
 
-      pub strike_second : (zs : List (Slot T)) → zs ≡ struck (filter_at cut l) cut → Whole zs r
-      strike_second zs d = subst (λ ys. Whole ys r) (ap (λ ys. struck (filter_at ys l) ys) cut_is ∙ sym d) (second_struck xs n l r two).whole
+      pub strike_two : {zs ws : List (Slot T)} (j : Joins xs n l r) → zs ≡ struck (filter_at ys l) ys → ws ≡ struck (filter_at zs r) zs → ws ≡ struck (filter_at xs n) xs
+      strike_two j d f =
+          f ∙ ap (λ us. struck (filter_at us r) us) (d ∙ ap (λ us. struck (filter_at us l) us) e) ∙ two_struck xs n l r two ∙ by_join j.by ∙ sym (ap (λ p. struck p xs) (at_join xs n j.by l r j.is two))
+        where
+          by_join : (c : Connective) → struck (filter_at xs r) (struck (filter_at xs l) (marked n Struck xs)) ≡ struck (join_at c n (filter_at xs l) (filter_at xs r)) xs
+          by_join C.And = refl
+          by_join C.Or = refl
 
-      pub strike_two : (zs ws : List (Slot T)) → zs ≡ struck (filter_at cut l) cut → ws ≡ struck (filter_at zs r) zs → ws ≡ struck (filter_at xs r) (struck (filter_at xs l) (marked n Struck xs))
-      strike_two zs ws d f = f ∙ ap (λ ys. struck (filter_at ys r) ys) (d ∙ sym (ap (λ ys. struck (filter_at ys l) ys) cut_is)) ∙ two_struck xs n l r two
-
-    module _ (i : ℕ) (w : Whole xs i) where
+    module _ {i : ℕ} (w : Whole xs i) where
       only_struck : Same xs (marked n Struck xs) i
       only_struck = same_nodes xs (marked n Struck xs) i w (marked_length xs n Struck) (marked_nodes xs n Struck)
 
-      pub strike_only : Whole cut i
-      strike_only = subst (λ ys. Whole ys i) cut_is only_struck.whole
+      pub strike_only : Whole ys i
+      strike_only = subst (λ us. Whole us i) (sym e) only_struck.whole
 
-      pub strike_one : (zs : List (Slot T)) → zs ≡ struck (filter_at cut i) cut → zs ≡ struck (filter_at xs i) (marked n Struck xs)
-      strike_one zs d = d ∙ sym (ap (λ ys. struck (filter_at ys i) ys) cut_is) ∙ ap (λ p. struck p (marked n Struck xs)) only_struck.is
+      pub strike_one : {zs : List (Slot T)} → zs ≡ struck (filter_at ys i) ys → zs ≡ struck (filter_at xs i) (marked n Struck xs)
+      strike_one d = d ∙ ap (λ us. struck (filter_at us i) us) e ∙ ap (λ p. struck p (marked n Struck xs)) only_struck.is
 
   -- negating, as the code goes
-  module _ (xs : List (Slot T)) (n : ℕ) (s : Slot T) (e : at xs n ≡ s) (l r : ℕ) (two : Two xs n l r) (ys zs : List (Slot T)) (a b : ℕ) (ea : a ≡ root (negated_placed opposite (filter_at xs l))) (ey : ys ≡ negation (filter_at xs l) xs) where
+  module _ {xs : List (Slot T)} {n l r : ℕ} (two : Two xs n l r) {ys : List (Slot T)} {a : ℕ} (ea : a ≡ root (negated_placed opposite (filter_at xs l))) (ey : ys ≡ negation (filter_at xs l) xs) where
     pub negate_second : Whole ys r
     negate_second = subst (λ us. Whole us r) (sym ey) (second_negated xs n l r two).whole
 
-    module _ (eb : b ≡ root (negated_placed opposite (filter_at ys r))) (ez : zs ≡ negation (filter_at ys r) ys) where
+    module _ {zs : List (Slot T)} {b : ℕ} (eb : b ≡ root (negated_placed opposite (filter_at ys r))) (ez : zs ≡ negation (filter_at ys r) ys) where
       same : filter_at ys r ≡ filter_at xs r
       same = ap (λ us. filter_at us r) ey ∙ (second_negated xs n l r two).is
 
-      pub negate_two : (J : ℕ → ℕ → Node T) → set zs n (slot (J a b) s.mark) ≡ set (negation (filter_at xs r) (negation (filter_at xs l) xs)) n (slot (J (root (negated_placed opposite (filter_at xs l))) (root (negated_placed opposite (filter_at xs r)))) (at xs n).mark)
-      negate_two J =
-          let fb = eb ∙ ap (λ p. root (negated_placed opposite p)) same in
-          let fz = ez ∙ ap₂ negation same ey in
-          let fm : s.mark ≡ (at xs n).mark = sym (ap (λ (u : Slot T). u.mark) e) in
-          simp (ea, fb, fz, fm)
+      both_negated : zs ≡ negation (filter_at xs r) (negation (filter_at xs l) xs)
+      both_negated = ez ∙ ap₂ negation same ey
+
+      pub negate_stays : at zs n ≡ at xs n
+      negate_stays =
+          ap (λ us. at us n) both_negated
+          ∙ negation_there (filter_at xs r) (negation (filter_at xs l) xs) n (λ i. let h = inside_all xs r two.second n i in let k = two.right in absurd (omega arith))
+          ∙ negation_there (filter_at xs l) xs n (λ i. let h = inside_all xs l two.first n i in let k = two.left in absurd (omega arith))
+
+      pub negate_two : (J : ℕ → ℕ → Node T) → set zs n (slot (J a b) (at xs n).mark) ≡ set (negation (filter_at xs r) (negation (filter_at xs l) xs)) n (slot (J (root (negated_placed opposite (filter_at xs l))) (root (negated_placed opposite (filter_at xs r)))) (at xs n).mark)
+      negate_two J = let fb = eb ∙ ap (λ p. root (negated_placed opposite p)) same in simp (ea, fb, both_negated)

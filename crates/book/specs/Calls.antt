@@ -1,10 +1,11 @@
 -- What each call answers and leaves.
-use Rattle.std.specs.Prelude.{ℕ, ◌+◌, Bool, true, false, cond, not, List, [], ◌∷◌, length, Some, None, Ok, Err, Option, Result, ◌==◌, nat_le, nat_lt, slice_set}
+use Rattle.std.specs.Prelude.{ℕ, ◌+◌, Bool, true, false, not, List, [], ◌∷◌, length, Some, None, Ok, Err, Option, Result, ◌==◌, nat_le, nat_lt, slice_set}
 use Rattle.values.specs.declared.literals.Literal.{Literal}
 use Rattle.values.specs.declared.refusals.Reason.{Reason}
 use Rattle.values.specs.declared.refusals.Reason.TheVariants as R
 use Rattle.values.specs.declared.refusals.Refused.{Refused}
 use Rattle.values.specs.Contents.{text_inside}
+use Rattle.values.specs.Admission.{first_failing}
 use Rattle.values.specs.Kept.{well_kept}
 use Rattle.lists.specs.Keep.{kept, placed}
 use Rattle.filters.specs.Placed.{root, negated_placed, rewritten_placed}
@@ -12,6 +13,7 @@ use Rattle.nodes.specs.declared.operators.PredicateOperator.{PredicateOperator}
 use Rattle.nodes.specs.declared.slots.Mark.TheVariants.{Standing, Joined}
 use Rattle.nodes.specs.declared.slots.Node.{Node}
 use Rattle.nodes.specs.declared.slots.Node.TheVariants.{Not, Unary, Binary, Set}
+use Rattle.nodes.specs.declared.slots.Run.{Run}
 use Rattle.nodes.specs.declared.slots.Slot.{Slot}
 use Rattle.nodes.specs.declared.term.Extent.{Extent}
 use Rattle.nodes.specs.Operators.{is_unary, is_binary, is_set}
@@ -74,6 +76,11 @@ abbrev pub unless : Bool → Reason → ℕ → Option Refused
 unless true r n = None
 unless false r n = Some (refused r n)
 
+-- what is answered where there is no reason
+abbrev pub granted : {X : Type 0} → Option Refused → X → Result X Refused
+granted (Some e) x = Err e
+granted None x = Ok x
+
 abbrev pub at_place : Reason → Option ℕ → Option Refused
 at_place r (Some n) = Some (refused r n)
 at_place r None = None
@@ -92,19 +99,14 @@ barred_one s b a = else (barred s b) (no_filter b a)
 unfoldable pub barred_two : {T : Type 0} → Setting T → Tables T → ℕ → ℕ → Option Refused
 barred_two s b a c = else (barred s b) (else (no_filter b a) (else (no_filter b c) (unless (not (a == c)) R.SameFilter a)))
 
--- the index of the first that fails the test, counted from i
-abbrev pub first_not : {X : Type 0} → (X → Bool) → List X → ℕ → Option ℕ
-first_not p [] i = None
-first_not p (x ∷ xs) i = cond (p x) (first_not p xs (i + 1)) (Some i)
-
 -- an operator of another family; the name outside its tables; the first literal with text outside; the first that its kind does not keep
 unfoldable pub barred_leaf : {T : Type 0} → Setting T → Tables T → Bool → T → List Literal → Option Refused
 barred_leaf s b family t ls =
     else (barred s b)
     (else (unless family R.OtherFamily 0)
     (else (unless (s.within t) R.TextOutside 0)
-    (else (at_place R.TextOutside (first_not (λ l. text_inside (length s.text) l.value) ls 0))
-    (at_place R.OtherStorage (first_not well_kept ls 0)))))
+    (else (at_place R.TextOutside (first_failing (λ l. text_inside (length s.text) l.value) 0 ls))
+    (at_place R.OtherStorage (first_failing well_kept 0 ls)))))
 
 -- no node left; kept literals that don't fit
 unfoldable pub full : {T : Type 0} → List (Slot T) → ℕ → Option Refused
@@ -112,6 +114,17 @@ full xs used = unless (nat_lt used (node_room xs)) R.NoNodeLeft 0
 
 unfoldable pub crowded : List Literal → ℕ → List Literal → Option Refused
 crowded ls stored new = unless (nat_le (stored + length new) (literal_room ls)) R.LiteralsDontFit 0
+
+-- what a set or a binary condition stores of the literals given: of equal ones the first
+abbrev pub kept_of : {T : Type 0} → Setting T → List Literal → List Literal
+kept_of s ls = kept (same_literal s.text) ls
+
+abbrev pub no_room : {T : Type 0} → Tables T → List Literal → Option Refused
+no_room b new = else (full b.slots b.used) (crowded b.literals b.stored new)
+
+-- the cells that they come to lie in
+abbrev pub cells : {T : Type 0} → Tables T → List Literal → Run
+cells b new = record { start = b.stored; count = length new }
 
 -- ---- the calls
 

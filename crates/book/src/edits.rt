@@ -8,7 +8,7 @@ ghost use Rattle.book.specs.Edits.{struck, negation, side_if, joined, folding, r
 
 use nodes::slots::{Mark, Node, Slot};
 
-#[derive(Clone, Copy)]
+#[derive(Clone, Copy, PartialEq, Eq)]
 pub enum Connective {
     And,
     Or,
@@ -22,32 +22,21 @@ pub enum Keep {
     Both,
 }
 
-// Strikes the filter whole.
+// Strikes the filter whole. `Whole` is asked here and below of a table and a number, and no type of one filter can keep
+// it: an edit of one filter keeps it for the others too.
 pub fn strike<T: Copy>(slots: &mut [Slot<T>], at: u16)
     requires { Whole slots.old at }
     ensures strikes_each_node { slots.new ≡ struck (filter_at slots.old at) slots.old }
 {
     let i = at as usize;
-    let slot = slots[i];
-    slots[i] = Slot {
-        node: slot.node,
-        mark: Mark::Struck,
-    };
-    match slot.node {
-        Node::And(l, r) => {
-            strike(slots, l);
-            strike(slots, r);
-        }
-        Node::Or(l, r) => {
+    slots[i].mark = Mark::Struck;
+    match slots[i].node {
+        Node::And(l, r) | Node::Or(l, r) => {
             strike(slots, l);
             strike(slots, r);
         }
         Node::Not(x) => strike(slots, x),
-        Node::AlwaysTrue => {}
-        Node::AlwaysFalse => {}
-        Node::Unary(_, _) => {}
-        Node::Binary(_, _, _) => {}
-        Node::Set(_, _, _) => {}
+        _ => {}
     }
 }
 
@@ -58,69 +47,20 @@ pub fn flip<T: Copy>(slots: &mut [Slot<T>], at: u16) -> u16
     ensures negates_in_place { slots.new ≡ negation (filter_at slots.old at) slots.old }
 {
     let i = at as usize;
-    let slot = slots[i];
-    match slot.node {
-        Node::AlwaysTrue => {
-            slots[i] = Slot {
-                node: Node::AlwaysFalse,
-                mark: slot.mark,
-            };
-            at
-        }
-        Node::AlwaysFalse => {
-            slots[i] = Slot {
-                node: Node::AlwaysTrue,
-                mark: slot.mark,
-            };
-            at
-        }
-        Node::And(l, r) => {
-            let l = flip(slots, l);
-            let r = flip(slots, r);
-            slots[i] = Slot {
-                node: Node::Or(l, r),
-                mark: slot.mark,
-            };
-            at
-        }
-        Node::Or(l, r) => {
-            let l = flip(slots, l);
-            let r = flip(slots, r);
-            slots[i] = Slot {
-                node: Node::And(l, r),
-                mark: slot.mark,
-            };
-            at
-        }
+    slots[i].node = match slots[i].node {
+        Node::AlwaysTrue => Node::AlwaysFalse,
+        Node::AlwaysFalse => Node::AlwaysTrue,
+        Node::And(l, r) => Node::Or(flip(slots, l), flip(slots, r)),
+        Node::Or(l, r) => Node::And(flip(slots, l), flip(slots, r)),
         Node::Not(x) => {
-            slots[i] = Slot {
-                node: slot.node,
-                mark: Mark::Struck,
-            };
-            x
+            slots[i].mark = Mark::Struck;
+            return x;
         }
-        Node::Unary(op, term) => {
-            slots[i] = Slot {
-                node: Node::Unary(op.negate(), term),
-                mark: slot.mark,
-            };
-            at
-        }
-        Node::Binary(op, term, literal) => {
-            slots[i] = Slot {
-                node: Node::Binary(op.negate(), term, literal),
-                mark: slot.mark,
-            };
-            at
-        }
-        Node::Set(op, term, literals) => {
-            slots[i] = Slot {
-                node: Node::Set(op.negate(), term, literals),
-                mark: slot.mark,
-            };
-            at
-        }
-    }
+        Node::Unary(op, term) => Node::Unary(op.negate(), term),
+        Node::Binary(op, term, literal) => Node::Binary(op.negate(), term, literal),
+        Node::Set(op, term, literals) => Node::Set(op.negate(), term, literals),
+    };
+    at
 }
 
 // The constant that a node is, if it is one.
@@ -130,12 +70,7 @@ fn constant<T: Copy>(node: Node<T>) -> Option<bool>
     match node {
         Node::AlwaysTrue => Some(true),
         Node::AlwaysFalse => Some(false),
-        Node::And(_, _) => None,
-        Node::Or(_, _) => None,
-        Node::Not(_) => None,
-        Node::Unary(_, _) => None,
-        Node::Binary(_, _, _) => None,
-        Node::Set(_, _, _) => None,
+        _ => None,
     }
 }
 
@@ -146,16 +81,14 @@ pub fn keeps<T: Copy>(folds: bool, connective: Connective, l: Node<T>, r: Node<T
     if !folds {
         return Keep::Both;
     }
-    match (connective, constant(l), constant(r)) {
-        (Connective::And, Some(false), _) => Keep::First,
-        (Connective::And, Some(true), _) => Keep::Second,
-        (Connective::And, None, Some(false)) => Keep::Second,
-        (Connective::And, None, Some(true)) => Keep::First,
-        (Connective::Or, Some(true), _) => Keep::First,
-        (Connective::Or, Some(false), _) => Keep::Second,
-        (Connective::Or, None, Some(true)) => Keep::Second,
-        (Connective::Or, None, Some(false)) => Keep::First,
-        (_, None, None) => Keep::Both,
+    // the constant that is kept whatever stands beside it
+    let decisive = connective == Connective::Or;
+    match (constant(l), constant(r)) {
+        (Some(side), _) if side == decisive => Keep::First,
+        (Some(_), _) => Keep::Second,
+        (None, Some(side)) if side == decisive => Keep::Second,
+        (None, Some(_)) => Keep::First,
+        (None, None) => Keep::Both,
     }
 }
 
@@ -184,31 +117,21 @@ fn fold<T: Copy>(
     ensures folds_in_place { slots.new ≡ folding folds connective at (filter_at slots.old l) (filter_at slots.old r) slots.old }
 {
     let i = at as usize;
-    let slot = slots[i];
-    let first = slots[l as usize];
-    let second = slots[r as usize];
-    match keeps(folds, connective, first.node, second.node) {
+    let left = slots[l as usize].node;
+    let right = slots[r as usize].node;
+    match keeps(folds, connective, left, right) {
         Keep::First => {
-            slots[i] = Slot {
-                node: slot.node,
-                mark: Mark::Struck,
-            };
+            slots[i].mark = Mark::Struck;
             strike(slots, r);
             l
         }
         Keep::Second => {
-            slots[i] = Slot {
-                node: slot.node,
-                mark: Mark::Struck,
-            };
+            slots[i].mark = Mark::Struck;
             strike(slots, l);
             r
         }
         Keep::Both => {
-            slots[i] = Slot {
-                node: joining(connective, l, r),
-                mark: slot.mark,
-            };
+            slots[i].node = joining(connective, l, r);
             at
         }
     }
@@ -221,31 +144,17 @@ pub fn rewrite<T: Copy>(slots: &mut [Slot<T>], at: u16, folds: bool) -> u16
     ensures rewrites_in_place { slots.new ≡ rewriting folds (filter_at slots.old at) slots.old }
 {
     let i = at as usize;
-    let slot = slots[i];
-    match slot.node {
-        Node::AlwaysTrue => at,
-        Node::AlwaysFalse => at,
-        Node::Unary(_, _) => at,
-        Node::Binary(_, _, _) => at,
-        Node::Set(_, _, _) => at,
-        Node::And(l, r) => {
-            let l = rewrite(slots, l, folds);
-            let r = rewrite(slots, r, folds);
-            fold(slots, at, folds, Connective::And, l, r)
-        }
-        Node::Or(l, r) => {
-            let l = rewrite(slots, l, folds);
-            let r = rewrite(slots, r, folds);
-            fold(slots, at, folds, Connective::Or, l, r)
-        }
+    let (connective, l, r) = match slots[i].node {
+        Node::And(l, r) => (Connective::And, l, r),
+        Node::Or(l, r) => (Connective::Or, l, r),
         Node::Not(x) => {
             let y = rewrite(slots, x, folds);
-            let slot = slots[i];
-            slots[i] = Slot {
-                node: slot.node,
-                mark: Mark::Struck,
-            };
-            flip(slots, y)
+            slots[i].mark = Mark::Struck;
+            return flip(slots, y);
         }
-    }
+        _ => return at,
+    };
+    let left = rewrite(slots, l, folds);
+    let right = rewrite(slots, r, folds);
+    fold(slots, at, folds, connective, left, right)
 }

@@ -2,6 +2,5 @@
 #![tactic(auto)]
 
 pub mod book;
-mod calls;
 mod edits;
 pub mod equality;

@@ -2,10 +2,12 @@
 use Rattle.std.proofs.Common.{◌≡◌, ℕ, ◌+◌, ◌<◌, ◌≤◌, Bool, true, false, cond, ◌&&◌, leb, ◌⊎◌, List, [], ◌∷◌, map, length, take, set, Some, None, Ok, Err, Option, Result, sym, refl, ap, ◌∙◌, subst, ap₂, inl, inr, arith, le-ltb, eq-eqb, leb-true}
 use mathlib.Core.Option.{Option as Maybe, some, none}
 use Rattle.std.proofs.lemmas.Bool.{and_from}
+use Rattle.std.specs.List.{list_all}
 use Rattle.values.specs.declared.literals.Literal.{Literal}
 use Rattle.values.specs.declared.refusals.Reason.TheVariants as R
 use Rattle.values.specs.declared.refusals.Refused.{Refused}
 use Rattle.values.specs.Contents.{text_inside, datum_of}
+use Rattle.values.specs.Admission.{first_failing}
 use Rattle.values.specs.Kept.{well_kept}
 use Rattle.lists.specs.Keep.{kept, placed}
 use Rattle.filters.specs.Trees.{Tree, constant as Constant, condition, Not as NotT, and, or, negated, rewritten, mapped, Each, NoNot, Lone}
@@ -25,7 +27,7 @@ use Rattle.nodes.specs.Operators.{is_unary, is_binary, is_set}
 use Rattle.nodes.specs.Conditions.{unary, binary, among, opposite}
 use Rattle.nodes.specs.Tables.{Held, slot, at, form, nodes, filter_at}
 use Rattle.nodes.specs.Filters.{constant_of}
-use Rattle.nodes.specs.Soundness.{every, fits, literals_in, is_standing, stands, literal_room, used_of}
+use Rattle.nodes.specs.Soundness.{fits, literals_in, is_standing, stands, literal_room, used_of}
 use Rattle.nodes.proofs.Order.{Below, Fit, Fitting}
 use Rattle.nodes.proofs.Found.{of_root, of_head}
 use Rattle.nodes.proofs.Lowest.{passes}
@@ -36,7 +38,7 @@ use Rattle.book.specs.declared.edits.Keep.{Keep}
 use Rattle.book.specs.declared.edits.Keep.TheVariants.{First, Second, Both}
 use Rattle.book.specs.Equality.{same_literal}
 use Rattle.book.specs.Edits.{marked, constant, struck, negation, rewriting, side, picked, join, join_at, joined}
-use Rattle.book.specs.Calls.{Tables, Setting, Asked, lay_constant, lay_unary, lay_binary, lay_set, ask_and, ask_or, ask_not, ask_negate, ask_rewrite, After, after, tables_of, else, unless, at_place, first_not, barred, barred_one, barred_two, barred_leaf, full, crowded, outcome, Written, written, writing, storing, laid, roomy, laying, over, joining, constant_after, unary_after, binary_after, set_after, not_after, join_after, negate_after, rewrite_after, performed}
+use Rattle.book.specs.Calls.{Tables, Setting, Asked, lay_constant, lay_unary, lay_binary, lay_set, ask_and, ask_or, ask_not, ask_negate, ask_rewrite, After, after, tables_of, else, unless, at_place, barred, barred_one, barred_two, barred_leaf, full, crowded, outcome, Written, written, writing, storing, laid, roomy, laying, over, joining, constant_after, unary_after, binary_after, set_after, not_after, join_after, negate_after, rewrite_after, performed}
 use Rattle.book.specs.Law.{Worded, told, answered, Ran, opened, called, bound}
 use Rattle.book.proofs.Edited.{set_there, marked_nodes, marked_length, struck_nodes}
 use Rattle.book.proofs.Turned.{Edit, at_set, form_of, mark_of, and_joined, or_joined, negation_edit}
@@ -213,18 +215,18 @@ module _ {T : Type 0} (s : Setting T) where
         room = let z = placed_length ls new b.stored inside in let y = roomed in omega arith;
       }
 
-      new_in : every (λ l. text_inside (length s.text) l.value) new ≡ true → literals_in (length s.text) (used_of (placed ls b.stored new) (b.stored + length new)) b.stored (length new) ≡ true
+      new_in : list_all (λ l. text_inside (length s.text) l.value) new ≡ true → literals_in (length s.text) (used_of (placed ls b.stored new) (b.stored + length new)) b.stored (length new) ≡ true
       new_in e = subst (λ k. literals_in (length s.text) k b.stored (length new) ≡ true) (sym after_used) (in_new s.within s.text ls new b.stored low inside e)
 
     -- what laying a condition asks
-    leaf_asks : (family : Bool) (t : T) (gs : List Literal) → None ≡ barred_leaf s b family t gs → (family ≡ true) × (s.within t ≡ true) × (every (λ l. text_inside (length s.text) l.value) gs ≡ true)
+    leaf_asks : (family : Bool) (t : T) (gs : List Literal) → None ≡ barred_leaf s b family t gs → (family ≡ true) × (s.within t ≡ true) × (list_all (λ l. text_inside (length s.text) l.value) gs ≡ true)
     unfolding barred_leaf
     leaf_asks family t gs e =
         let d = else_none (barred s b) _ e in
         let f = else_none (unless family R.OtherFamily 0) _ d.1 in
         let w = else_none (unless (s.within t) R.TextOutside 0) _ f.1 in
-        let g = else_none (at_place R.TextOutside (first_not (λ l. text_inside (length s.text) l.value) gs 0)) (at_place R.OtherStorage (first_not well_kept gs 0)) w.1 in
-        (unless_none family R.OtherFamily 0 f.0, unless_none (s.within t) R.TextOutside 0 w.0, none_fails (λ l. text_inside (length s.text) l.value) gs 0 (place_none R.TextOutside (first_not (λ l. text_inside (length s.text) l.value) gs 0) g.0))
+        let g = else_none (at_place R.TextOutside (first_failing (λ l. text_inside (length s.text) l.value) 0 gs)) (at_place R.OtherStorage (first_failing well_kept 0 gs)) w.1 in
+        (unless_none family R.OtherFamily 0 f.0, unless_none (s.within t) R.TextOutside 0 w.0, none_fails (λ l. text_inside (length s.text) l.value) gs 0 (place_none R.TextOutside (first_failing (λ l. text_inside (length s.text) l.value) 0 gs) g.0))
 
   module _ (b : Tables T) (sh : Sheet (Tree W)) (good : Good b sh) where
     binary_good : (o : _) (t : T) (l : Literal) → Goal (lay (condition (binary o t (datum_of s.text l)))) sh (binary_after s b o t l)

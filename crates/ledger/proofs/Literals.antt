@@ -2,17 +2,18 @@
 use Rattle.std.proofs.Common.{◌≡◌, ℕ, ◌+◌, ◌-◌, ◌<◌, ◌≤◌, min, Bool, true, false, cond, ◌&&◌, leb, List, [], ◌∷◌, ◌++◌, map, length, get_or, take, drop, Some, None, sym, refl, ap, ◌∙◌, arith, length-append, length-drop, length-take, get_or-take, take-take, le-leb, leb-true}
 use lib.ListN.{get_or-append}
 use lib.Seq.{take-append_seam, drop-append_seam, take-append-le, drop-append-le, get_or-append_seam}
+use Rattle.std.specs.List.{list_all}
 use Rattle.std.proofs.lemmas.List.{drop-take}
 use Rattle.std.proofs.lemmas.Bool.{and_parts, and_from}
 use Rattle.values.specs.declared.literals.Literal.{Literal}
 use Rattle.values.specs.Contents.{text_inside, datum_of}
+use Rattle.values.specs.Admission.{first_failing}
 use Rattle.lists.specs.Keep.{against, fresh, placed}
 use Rattle.nodes.specs.Conditions.{unary, binary, among}
 use Rattle.nodes.specs.Operators.{is_unary, is_binary, is_set}
 use Rattle.nodes.specs.Tables.{Held}
-use Rattle.nodes.specs.Soundness.{every, literals_in, fits, literal_room, used_of}
+use Rattle.nodes.specs.Soundness.{literals_in, fits, literal_room, used_of}
 use Rattle.nodes.proofs.Order.{Fair}
-use Rattle.book.specs.Calls.{first_not}
 use Rattle.ledger.specs.Law.{nothing, content}
 use Rattle.ledger.proofs.Families.{unary_turned, binary_turned, set_turned}
 
@@ -56,24 +57,24 @@ module _ {X : Type 0} where
   one_new : (xs : List X) (x : X) (k : ℕ) (d : X) → k ≤ length xs → get_or (placed xs k (x ∷ [])) k d ≡ x
   one_new xs x k d l = ap (λ j. get_or (placed xs k (x ∷ [])) j d) (sym (long xs k l)) ∙ get_or-append_seam (take k xs) x (drop (k + 1) xs) d
 
-  pub none_fails : (p : X → Bool) (xs : List X) (i : ℕ) → first_not p xs i ≡ None → every p xs ≡ true
-  none_fails p [] i e = refl
-  none_fails p (x ∷ xs) i e = by (p x) refl e (λ h. none_fails p xs (i + 1) h)
-    where
-      by : (b : Bool) → p x ≡ b → cond b (first_not p xs (i + 1)) (Some i) ≡ None → (first_not p xs (i + 1) ≡ None → every p xs ≡ true) → p x && every p xs ≡ true
-      by true d e f = and_from (p x) (every p xs) d (f e)
-      by false d e f = let z : ◌≡◌ {A = ℕ} 0 1 = cc in absurd (omega arith)
-
-  fresh_every : (p : X → Bool) (q : X → X → Bool) (ks xs : List X) → every p xs ≡ true → every p (fresh q ks xs) ≡ true
+  fresh_every : (p : X → Bool) (q : X → X → Bool) (ks xs : List X) → list_all p xs ≡ true → list_all p (fresh q ks xs) ≡ true
   fresh_every p q ks [] e = refl
   fresh_every p q ks (x ∷ xs) e =
-      let h = and_parts (p x) (every p xs) e in
+      let h = and_parts (p x) (list_all p xs) e in
       let f = fresh_every p q ks xs h.1 in
-      let g = and_from (p x) (every p (fresh q (ks ++ (x ∷ [])) xs)) h.0 (fresh_every p q (ks ++ (x ∷ [])) xs h.1) in
-      elim (against q ks x) as (λ b. every p (cond b (fresh q ks xs) (x ∷ fresh q (ks ++ (x ∷ [])) xs)) ≡ true) [ true ↦ f | false ↦ g ]
+      let g = and_from (p x) (list_all p (fresh q (ks ++ (x ∷ [])) xs)) h.0 (fresh_every p q (ks ++ (x ∷ [])) xs h.1) in
+      elim (against q ks x) as (λ b. list_all p (cond b (fresh q ks xs) (x ∷ fresh q (ks ++ (x ∷ [])) xs)) ≡ true) [ true ↦ f | false ↦ g ]
 
-  pub kept_every : (p : X → Bool) (q : X → X → Bool) (xs : List X) → every p xs ≡ true → every p (fresh q [] xs) ≡ true
+  pub kept_every : (p : X → Bool) (q : X → X → Bool) (xs : List X) → list_all p xs ≡ true → list_all p (fresh q [] xs) ≡ true
   kept_every p q xs e = fresh_every p q [] xs e
+
+pub none_fails : (p : Literal → Bool) (ls : List Literal) (i : ℕ) → first_failing p i ls ≡ None → list_all p ls ≡ true
+none_fails p [] i e = refl
+none_fails p (l ∷ ls) i e = by (p l) refl e (λ h. none_fails p ls (i + 1) h)
+  where
+    by : (b : Bool) → p l ≡ b → cond b (first_failing p (i + 1) ls) (Some i) ≡ None → (first_failing p (i + 1) ls ≡ None → list_all p ls ≡ true) → p l && list_all p ls ≡ true
+    by true d e f = and_from (p l) (list_all p ls) d (f e)
+    by false d e f = let z : ◌≡◌ {A = ℕ} 0 1 = cc in absurd (omega arith)
 
 pub used_is : (ls : List Literal) (k : ℕ) → k ≤ literal_room ls → used_of ls k ≡ take k ls
 used_is ls k h = ap (λ j. take j ls) (let z : min k (literal_room ls) ≡ k = omega arith in z)
@@ -101,14 +102,14 @@ module _ {T : Type 0} (within : T → Bool) (text : List ℕ) (ls new : List Lit
   same_run s c h = run_part ls' k' s c (omega arith) ∙ run_kept ls new k s c h low ∙ sym (run_part ls k s c h)
 
   below : (s c : ℕ) → literals_in (length text) (take k ls) s c ≡ true → s + c ≤ k
-  below s c e = let q = and_parts (leb (s + c) (length (take k ls))) (every p (take c (drop s (take k ls)))) e in let l = leb-true (s + c) (length (take k ls)) q.0 in let z = long ls k low in omega arith
+  below s c e = let q = and_parts (leb (s + c) (length (take k ls))) (list_all p (take c (drop s (take k ls)))) e in let l = leb-true (s + c) (length (take k ls)) q.0 in let z = long ls k low in omega arith
 
   in_more : (s c : ℕ) → literals_in (length text) (take k ls) s c ≡ true → literals_in (length text) (take k' ls') s c ≡ true
   in_more s c e =
-      let q = and_parts (leb (s + c) (length (take k ls))) (every p (take c (drop s (take k ls)))) e in
+      let q = and_parts (leb (s + c) (length (take k ls))) (list_all p (take c (drop s (take k ls)))) e in
       let h = below s c e in
       let z = long' in
-      and_from _ _ (le-leb (s + c) (length (take k' ls')) (omega arith)) (ap (every p) (same_run s c h) ∙ q.1)
+      and_from _ _ (le-leb (s + c) (length (take k' ls')) (omega arith)) (ap (list_all p) (same_run s c h) ∙ q.1)
 
   pub fits_more : (c : Held T) → fits within (length text) (take k ls) c ≡ true → fits within (length text) (take k' ls') c ≡ true
   fits_more (unary o t) h = h
@@ -134,10 +135,10 @@ module _ {T : Type 0} (within : T → Bool) (text : List ℕ) (ls new : List Lit
       ap (λ x. among o t (map (datum_of text) x)) (sym (run_kept ls new k r.start r.count (below r.start r.count b.1) low))
 
   -- the new ones
-  pub in_new : every p new ≡ true → literals_in (length text) (take k' ls') k (length new) ≡ true
+  pub in_new : list_all p new ≡ true → literals_in (length text) (take k' ls') k (length new) ≡ true
   in_new e =
       let z = long' in
-      and_from _ _ (le-leb (k + length new) (length (take k' ls')) (omega arith)) (ap (every p) (run_part ls' k' k (length new) (omega arith) ∙ run_new ls new k low) ∙ e)
+      and_from _ _ (le-leb (k + length new) (length (take k' ls')) (omega arith)) (ap (list_all p) (run_part ls' k' k (length new) (omega arith) ∙ run_new ls new k low) ∙ e)
 
   pub read_new : map (datum_of text) (take (length new) (drop k ls')) ≡ map (datum_of text) new
   read_new = ap (map (datum_of text)) (run_new ls new k low)

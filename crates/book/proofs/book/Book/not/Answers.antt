@@ -1,29 +1,28 @@
-use Rattle.std.proofs.Common.{refl, ap}
-use Rattle.book.specs.Calls.{barred_one, ask_not, writing, not_after}
+use Rattle.std.proofs.Common.{refl, arith, length-set}
+use Rattle.std.proofs.lemmas.Grind.{common_steps}
+use Rattle.std.proofs.lemmas.Result.{err_from_is_err_and}
+use Rattle.nodes.specs.declared.slots.Mark.TheVariants.{Joined}
+use Rattle.book.specs.Calls.{not_after}
 use Rattle.book.specs.Ways.{tables, setting}
-use Rattle.book.specs.Law.{called}
-use Rattle.book.proofs.Called.{no, yes', one, free_inside}
+use Rattle.book.proofs.Edited.{mark_is}
+use Rattle.book.proofs.Called.{granted_one, granted_room, over_full, over_laid, refuses, does}
 use Rattle.book.proofs.book.Book.not.Goals as goal
 
-pub returns-in-Some : goal.returns-in-Some
+pub returns-in_err-check_one : goal.returns-in_err-check_one
 unfolding not_after
-returns-in-Some g c =
-    let s = setting g.T.Term.within c.args.self.now in
-    let b = tables c.args.self.now in
-    let e = no b (barred_one s b c.args.a) _ c.in-Some.e c.in-Some.ensures.asks_that_it_stands in
-    record { answers_and_leaves_what_the_rules_give = e; reads_the_same_text = refl; is_a_step_of_every_run = λ ts ran. called (ask_not c.args.a) _ _ ran e }
+returns-in_err-check_one g c = record { does_what_is_asked = does _ _ _ _ _ (grind (arith, common_steps, refuses)) refl }
 
-pub not-answer-requires : goal.not-answer-requires
-not-answer-requires g c =
-    let s = setting g.T.Term.within c.args.self.now in
-    let b = tables c.args.self.now in
-    let o = one s b c.args.a c.in_default.ensures.asks_that_it_stands in
-    free_inside b.slots b.used c.args.a o.free
+pub returns-in_err-check_room : goal.returns-in_err-check_room
+returns-in_err-check_room g c =
+    let p = err_from_is_err_and c.from_residual-in_err-check_room.result c.from_residual-in_err-check_room.ensures.1 in
+    record { does_what_is_asked = does _ _ _ _ _ (rw (p.1, p.2) (over_full (setting g.T.Term.within c.args.self.now) (tables c.args.self.now) c.args.a _ _ _ c.in_ok-check_one.ensures.asks_tables_first _ c.in_err-check_room.ensures.asks_for_a_node)) refl }
+
+pub push-requires-clause-room : goal.push-requires-clause-room
+push-requires-clause-room g c = simp length-set (granted_room _ _ _ _ c.in_ok-check_room.ensures.asks_for_a_node)
 
 pub returns : goal.returns
-unfolding not_after
 returns g c =
     let s = setting g.T.Term.within c.args.self.now in
     let b = tables c.args.self.now in
-    let e = yes' b (barred_one s b c.args.a) _ _ c.in_default.ensures.asks_that_it_stands (ap (writing b) c.not-answer.ensures.lays_a_not) in
-    record { answers_and_leaves_what_the_rules_give = e; reads_the_same_text = refl; is_a_step_of_every_run = λ ts ran. called (ask_not c.args.a) _ _ ran e }
+    let h = c.in_ok-check_one.ensures.asks_tables_first in
+    record { does_what_is_asked = does _ _ _ _ _ (over_laid s b c.args.a _ _ _ h _ _ _ c.in_ok-check_room.ensures.asks_for_a_node (mark_is b.slots c.args.a _ Joined (granted_one s b c.args.a _ _ h).inside) c.push.ensures.lays_it) c.push.ensures.reads_the_same_text }
