@@ -1,21 +1,21 @@
 -- The test of literals is the equality of what they hold.
-use Rattle.std.specs.Prelude.{◌≡◌, ℕ, Bool, true, false, cond, List, Decides, ◌==◌, refl}
+use Rattle.std.specs.Prelude.{◌≡◌, ℕ, true, cond, List, Decides, ◌==◌, refl}
 use Rattle.std.proofs.Common.{sym, ap, ap₂, ◌∙◌}
 use Rattle.std.proofs.lemmas.Bool.{and_parts, and_from, eqb-true, eq-eqb}
 use Rattle.values.specs.declared.kinds.Kind.{Kind}
 use Rattle.values.specs.declared.kinds.Kind.TheVariants as K
 use Rattle.values.specs.declared.literals.Literal.{Literal}
-use Rattle.values.specs.Kinds.{place_of, same_family}
+use Rattle.values.specs.Kinds.{place_of, length_of, same_kind, same_family}
 use Rattle.values.specs.Contents.{Datum, content_of, datum_of}
 use Rattle.comparison.specs.Equality.{same_content}
 use Rattle.comparison.proofs.Contents.{content_tells}
-use Rattle.book.specs.Equality.{stated_length, same_kind, same_literal}
+use Rattle.book.specs.Equality.{same_literal}
 
 -- the kind of a place in the list, and a length
 abbrev kind_at : ℕ → ℕ → Kind
 kind_at p n = cond (p == 0) K.Boolean (cond (p == 1) K.Int (cond (p == 2) K.Date (cond (p == 3) K.Long (cond (p == 4) K.Time (cond (p == 5) K.Timestamp (cond (p == 6) K.Timestamptz (cond (p == 7) K.TimestampNs (cond (p == 8) K.TimestamptzNs (cond (p == 9) K.Float (cond (p == 10) K.Double (cond (p == 11) K.String (cond (p == 12) (K.Fixed n) (K.Binary)))))))))))))
 
-kind_told : (k : Kind) → kind_at (place_of k) (stated_length k) ≡ k
+kind_told : (k : Kind) → kind_at (place_of k) (length_of k) ≡ k
 kind_told K.Boolean = refl
 kind_told K.Int = refl
 kind_told K.Date = refl
@@ -33,11 +33,11 @@ kind_told K.Binary = refl
 
 one_kind : (a b : Kind) → same_kind a b ≡ true → a ≡ b
 one_kind a b h =
-    let p = and_parts (same_family a b) (stated_length a == stated_length b) h in
-    sym (kind_told a) ∙ ap₂ kind_at (eqb-true (place_of a) (place_of b) p.0) (eqb-true (stated_length a) (stated_length b) p.1) ∙ kind_told b
+    let p = and_parts (same_family a b) (length_of a == length_of b) h in
+    sym (kind_told a) ∙ ap₂ kind_at (eqb-true (place_of a) (place_of b) p.0) (eqb-true (length_of a) (length_of b) p.1) ∙ kind_told b
 
 kind_same : (a b : Kind) → a ≡ b → same_kind a b ≡ true
-kind_same a b e = and_from _ _ (eq-eqb (place_of a) (place_of b) (ap place_of e)) (eq-eqb (stated_length a) (stated_length b) (ap stated_length e))
+kind_same a b e = and_from _ _ (eq-eqb (place_of a) (place_of b) (ap place_of e)) (eq-eqb (length_of a) (length_of b) (ap length_of e))
 
 pub literal_tells : (t : List ℕ) (a b : Literal) → Decides (same_literal t a b) (datum_of t a ≡ datum_of t b)
 literal_tells t a b = (
@@ -49,12 +49,6 @@ literal_tells t a b = (
   where
     made : a.kind ≡ b.kind → content_of t a.value ≡ content_of t b.value → datum_of t a ≡ datum_of t b
     made k c = λ i. record { kind = k i; content = c i }
-
--- two tests of one thing
-pub same_test : (r q : Bool) (P : Type 0) → Decides r P → Decides q P → r ≡ q
-same_test true q P d e = sym (e.1 (d.0 refl))
-same_test false true P d e = d.1 (e.0 refl)
-same_test false false P d e = refl
 
 module _ (t : List ℕ) where
   pub literal_reflexive : (x : Literal) → same_literal t x x ≡ true
