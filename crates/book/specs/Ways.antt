@@ -15,8 +15,12 @@ tables b = tables_of b.slots.now b.used b.literals.now b.stored
 abbrev pub setting : {T : Type 0} → (Extent → T → Bool) → Book T → Setting T
 setting within b = reads within b.text.now (length b.places.now)
 
+-- the two are read by one setting: the text is one, and as many places are there
+abbrev pub IsReadAlike : {T : Type 0} → (Extent → T → Bool) → Book T → Book T → Type 0
+IsReadAlike within b b' = setting within b' ≡ setting within b
+
 -- a call that was asked of a book took it from b to b', with this answer
 pub record Does {T : Type 0} (within : Extent → T → Bool) (asked : Asked T) (b b' : Book T) (answer : Result ℕ Refused) : Type 0 where
   pub answers_and_leaves_what_the_rules_give : after (tables b') answer ≡ performed (setting within b) asked (tables b)
-  pub reads_the_same_text : setting within b' ≡ setting within b
+  pub reads_the_same_text : IsReadAlike within b b'
   pub is_a_step_of_every_run : Carries (setting within b) asked (tables b) (tables b') answer

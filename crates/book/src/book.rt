@@ -3,7 +3,7 @@ ghost use Rattle.std.specs.Prelude.{◌≡◌, ◌+◌, ◌<◌, false, length, 
 ghost use Rattle.nodes.specs.Soundness.{stands as stands_in, unsound as unsound_in};
 ghost use Rattle.book.specs.Edits.{constant};
 ghost use Rattle.book.specs.Calls.{after, granted, barred, no_filter, barred_one, barred_two, barred_leaf, full, kept_of, no_room, cells, storing, writing, laid, laying, join_after, rewrite_after, lay_constant, lay_unary, lay_binary, lay_set, ask_and, ask_or, ask_not, ask_negate, ask_rewrite};
-ghost use Rattle.book.specs.Ways.{tables, setting, extent as extent_of, Does};
+ghost use Rattle.book.specs.Ways.{tables, setting, extent as extent_of, IsReadAlike, Does};
 
 use crate::edits::{Connective, Keep, flip, joining, keeps, rewrite, strike};
 use crate::equality::Literals;
@@ -145,7 +145,7 @@ impl<'a, 't, T: Term> Book<'a, 't, T> {
         requires room { self.old.used < length self.old.slots.now }
         requires few { self.old.used < 256 }
         ensures lays_it { after (tables self.new) (Ok result) ≡ writing (tables self.old) (laid (tables self.old).slots (tables self.old).used node) }
-        ensures reads_the_same_text { setting T.Term.within self.new ≡ setting T.Term.within self.old }
+        ensures reads_the_same_text { IsReadAlike T.Term.within self.old self.new }
     {
         let n = self.used;
         self.slots[n] = Slot {
@@ -160,7 +160,7 @@ impl<'a, 't, T: Term> Book<'a, 't, T> {
     #[tactic(auto, using(crate::proofs::Called::room))]
     fn lay(&mut self, node: Node<T>) -> Result<u16, Refused>
         ensures lays_it_if_one_is_left { after (tables self.new) result ≡ writing (tables self.old) (laying (tables self.old).slots (tables self.old).used node) }
-        ensures reads_the_same_text { setting T.Term.within self.new ≡ setting T.Term.within self.old }
+        ensures reads_the_same_text { IsReadAlike T.Term.within self.old self.new }
     {
         self.check_room()?;
         Ok(self.push(node))
@@ -171,7 +171,7 @@ impl<'a, 't, T: Term> Book<'a, 't, T> {
     fn store(&mut self, given: &[Literal]) -> Result<Run, Refused>
         ensures asks_for_room { result ≡ granted (no_room (tables self.old) (kept_of (setting T.Term.within self.old) given.now)) (cells (tables self.old) (kept_of (setting T.Term.within self.old) given.now)) }
         ensures stores_all_or_nothing { MatchResult result (λ _. tables self.new ≡ storing (tables self.old) (kept_of (setting T.Term.within self.old) given.now)) (λ _. tables self.new ≡ tables self.old) }
-        ensures reads_the_same_text { setting T.Term.within self.new ≡ setting T.Term.within self.old }
+        ensures reads_the_same_text { IsReadAlike T.Term.within self.old self.new }
     {
         self.check_room()?;
         let start = self.stored;
@@ -189,7 +189,7 @@ impl<'a, 't, T: Term> Book<'a, 't, T> {
     #[tactic(auto, using(crate::proofs::Called::standing, crate::proofs::Called::room, crate::proofs::Called::refuses), unfolding(crate::specs::Calls::join_after))]
     fn join(&mut self, connective: Connective, a: u16, b: u16) -> Result<u16, Refused>
         ensures joins_or_folds { after (tables self.new) result ≡ join_after connective (setting T.Term.within self.old) (tables self.old) a b }
-        ensures reads_the_same_text { setting T.Term.within self.new ≡ setting T.Term.within self.old }
+        ensures reads_the_same_text { IsReadAlike T.Term.within self.old self.new }
     {
         self.check_two(a, b)?;
         let left = self.slots[a as usize].node;
@@ -216,7 +216,7 @@ impl<'a, 't, T: Term> Book<'a, 't, T> {
     #[tactic(auto, using(crate::proofs::Called::standing, crate::proofs::Called::refuses), unfolding(crate::specs::Calls::rewrite_after))]
     fn rewrite(&mut self, a: u16, folds: bool) -> Result<u16, Refused>
         ensures rewrites_in_place { after (tables self.new) result ≡ rewrite_after folds (setting T.Term.within self.old) (tables self.old) a }
-        ensures reads_the_same_text { setting T.Term.within self.new ≡ setting T.Term.within self.old }
+        ensures reads_the_same_text { IsReadAlike T.Term.within self.old self.new }
     {
         self.check_one(a)?;
         let n = rewrite(self.slots, a, folds);
@@ -315,7 +315,7 @@ impl<'a, 't, T: Term> Book<'a, 't, T> {
     // The same with no join folded, as a bound filter is rewritten.
     pub fn rewrite_unfolded(&mut self, a: u16) -> Result<u16, Refused>
         ensures answers_and_leaves_what_the_rules_give { after (tables self.new) result ≡ rewrite_after false (setting T.Term.within self.old) (tables self.old) a }
-        ensures reads_the_same_text { setting T.Term.within self.new ≡ setting T.Term.within self.old }
+        ensures reads_the_same_text { IsReadAlike T.Term.within self.old self.new }
     {
         self.rewrite(a, false)
     }

@@ -10,7 +10,7 @@ use crate::slots::{Mark, Node, Run, Slot};
 use crate::term::{Extent, Term};
 use values::literals::Literal;
 
-// How many nodes there may be.
+// How many nodes there may be. Here and for literals a room is one `min`: a function of table and limit would be `min` again.
 pub fn node_room<T: Copy>(slots: &[Slot<T>]) -> usize
     ensures is_the_table_or_256 { result ≡ node_room_of slots.now }
 {

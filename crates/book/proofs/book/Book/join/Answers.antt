@@ -21,12 +21,12 @@ push-requires-clause-room g c = simp length-set (granted_room _ _ _ _ c.in_ok-ch
 pub returns-in-First-clause-joins_or_folds : goal.returns-in-First-clause-joins_or_folds
 returns-in-First-clause-joins_or_folds g c =
     let b = tables c.args.self.now in
-    joins_by c.args.connective (setting g.T.Term.within c.args.self.now) b c.args.a c.args.b _ _ _ _ c.in_ok-check_two.ensures.asks_two_that_stand First (written _ b.used (Ok c.args.a)) c.in-First.ensures.goes_by_the_constants (ap (λ xs. written xs b.used (Ok c.args.a)) c.strike.ensures.strikes_each_node)
+    joins_by c.args.connective (setting g.T.Term.within c.args.self.now) b c.args.a c.args.b _ _ _ _ c.in_ok-check_two.ensures.asks_two_that_stand First (written _ b.used (Ok c.args.a)) c.in-First.ensures.goes_by_the_constants (λ i. written (c.strike.ensures.strikes_each_node i) b.used (Ok c.args.a))
 
 pub returns-in-Second-clause-joins_or_folds : goal.returns-in-Second-clause-joins_or_folds
 returns-in-Second-clause-joins_or_folds g c =
     let b = tables c.args.self.now in
-    joins_by c.args.connective (setting g.T.Term.within c.args.self.now) b c.args.a c.args.b _ _ _ _ c.in_ok-check_two.ensures.asks_two_that_stand Second (written _ b.used (Ok c.args.b)) c.in-Second.ensures.goes_by_the_constants (ap (λ xs. written xs b.used (Ok c.args.b)) c.strike-in-Second.ensures.strikes_each_node)
+    joins_by c.args.connective (setting g.T.Term.within c.args.self.now) b c.args.a c.args.b _ _ _ _ c.in_ok-check_two.ensures.asks_two_that_stand Second (written _ b.used (Ok c.args.b)) c.in-Second.ensures.goes_by_the_constants (λ i. written (c.strike-in-Second.ensures.strikes_each_node i) b.used (Ok c.args.b))
 
 pub returns-in_err-check_room-in-Both-clause-joins_or_folds : goal.returns-in_err-check_room-in-Both-clause-joins_or_folds
 returns-in_err-check_room-in-Both-clause-joins_or_folds g c =
