@@ -122,31 +122,27 @@ value_bytes line t w s n e l p q =
 parts : (t : List ℕ) (n : ℕ) → FirstColon t (Some n) → t ≡ take n t ++ (58 ∷ drop (n + 1) t)
 parts t n f = sym (take-append-drop n t) ∙ ap (λ (x : List ℕ). take n t ++ x) (drop_more t n 0 f.0 ∙ ap (λ (c : ℕ). c ∷ drop (n + 1) t) f.1.0)
 
-front : (t : List ℕ) (n : ℕ) → take (n - 0) t ≡ take n t
-front t n = let e : n - 0 ≡ n = omega arith in rw e refl
-
-pub literal_read : (line t : List ℕ) (w s : Span) (n : ℕ) (k : Kind) (r : Storage) (v : Value) → t ≡ bytes_at line w → FirstColon t (Some n) → KindWord k (take (n - 0) t)
+pub literal_read : (line t : List ℕ) (w s : Span) (n : ℕ) (k : Kind) (r : Storage) (v : Value) → t ≡ bytes_at line w → FirstColon t (Some n) → KindWord k (take n t)
     → r ≡ storage_of k → s.start ≡ w.start + n + 1 → s.len ≡ length t - n - 1 → ValueRead line r s (Some v) → LiteralRead line w (Some (record { kind = k; value = v }))
 literal_read line t w s n k r v e f kw re p q h =
     let l = f.0 in
     let value : Wording (storage_of k) (content_of line v) (drop (n + 1) t) = rw (← re, ← value_bytes line t w s n e l p q) h.0 in
-    let name : KindWord k (take n t) = (kw.0, sym (front t n) ∙ kw.1) in
     let short = shorter line t w e in
-    ((take n t, drop (n + 1) t, (sym e ∙ parts t n f, (name, value))), λ o. h.1 (let b = leb-true (w.start + w.len) (length line) o in le-leb (s.start + s.len) (length line) (omega arith)))
+    ((take n t, drop (n + 1) t, (sym e ∙ parts t n f, (kw, value))), λ o. h.1 (let b = leb-true (w.start + w.len) (length line) o in le-leb (s.start + s.len) (length line) (omega arith)))
 
-pub no_value : (line t : List ℕ) (w s : Span) (n : ℕ) (k : Kind) (r : Storage) → t ≡ bytes_at line w → FirstColon t (Some n) → KindWord k (take (n - 0) t)
+pub no_value : (line t : List ℕ) (w s : Span) (n : ℕ) (k : Kind) (r : Storage) → t ≡ bytes_at line w → FirstColon t (Some n) → KindWord k (take n t)
     → r ≡ storage_of k → s.start ≡ w.start + n + 1 → s.len ≡ length t - n - 1 → ValueRead line r s None → LiteralRead line w None
 no_value line t w s n k r e f kw re p q h = λ d g.
     let place = colon_place t g.0 g.1 n d.kind g.2.1.0 (e ∙ g.2.0) f in
     let kind : g.0 ≡ take n t = sym (ap (take n) (e ∙ g.2.0) ∙ take_at g.0 (58 ∷ g.1) n (sym place)) in
     let rest : g.1 ≡ drop (n + 1) t = sym (ap (drop 1) (ap (drop n) (e ∙ g.2.0) ∙ drop_at g.0 (58 ∷ g.1) n (sym place))) ∙ drop-drop 1 n t in
-    let storage : storage_of d.kind ≡ r = one_storage d.kind k (take n t) (g.2.1.0.0, sym kind ∙ g.2.1.0.1) (kw.0, sym (front t n) ∙ kw.1) ∙ sym re in
+    let storage : storage_of d.kind ≡ r = one_storage d.kind k (take n t) (g.2.1.0.0, sym kind ∙ g.2.1.0.1) kw ∙ sym re in
     h d.content (rw (← storage, value_bytes line t w s n e f.0 p q, ← rest) g.2.1.1)
 
-pub no_kind : (line t : List ℕ) (w : Span) (n : ℕ) → t ≡ bytes_at line w → FirstColon t (Some n) → ((k : Kind) → KindWord k (take (n - 0) t) → ⊥) → LiteralRead line w None
+pub no_kind : (line t : List ℕ) (w : Span) (n : ℕ) → t ≡ bytes_at line w → FirstColon t (Some n) → ((k : Kind) → KindWord k (take n t) → ⊥) → LiteralRead line w None
 no_kind line t w n e f h = λ d g.
     let place = colon_place t g.0 g.1 n d.kind g.2.1.0 (e ∙ g.2.0) f in
-    let kind : g.0 ≡ take (n - 0) t = sym (front t n ∙ ap (take n) (e ∙ g.2.0) ∙ take_at g.0 (58 ∷ g.1) n (sym place)) in
+    let kind : g.0 ≡ take n t = sym (ap (take n) (e ∙ g.2.0) ∙ take_at g.0 (58 ∷ g.1) n (sym place)) in
     h d.kind (g.2.1.0.0, sym kind ∙ g.2.1.0.1)
 
 pub no_parts : (line t : List ℕ) (w : Span) → t ≡ bytes_at line w → FirstColon t None → LiteralRead line w None

@@ -1,14 +1,32 @@
 -- Words, byte by byte.
-use Rattle.std.proofs.Common.{◌≡◌, ℕ, suc, ◌+◌, ◌-◌, ◌<◌, ◌≤◌, Bool, true, false, not, ◌&&◌, List, [], ◌∷◌, length, get_or, take, drop, sym, refl, ap, ◌∙◌, inl, inr, add-zero, arith, length-drop}
-use Rattle.std.proofs.lemmas.List.{at_drop_more, at_drop_all, drop-drop}
-use Rattle.std.proofs.lemmas.Bool.{cases_Bool, cond-true, cond-false, le-leb, and_parts, and_left}
-use Rattle.reading.specs.Words.{blank, turned, front, Word, between, inside, words_on, words_from}
-use Rattle.reading.specs.NextWord.{Found}
+use Rattle.std.proofs.Common.{◌≡◌, ℕ, suc, ◌+◌, ◌-◌, ◌<◌, ◌≤◌, Bool, true, false, not, ◌&&◌, ltb, List, [], ◌∷◌, length, get_or, take, drop, Some, None, Option, sym, refl, ap, ◌∙◌, inl, inr, add-zero, arith, length-drop, get_or-drop}
+use Rattle.std.specs.List.{fold, position, position_or_len}
+use Rattle.std.proofs.lemmas.List.{at_drop_more, at_drop_all, drop-drop, take_all}
+use Rattle.std.proofs.lemmas.List.Sums.{passes_at_first}
+use Rattle.std.proofs.lemmas.Bool.{cases_Bool, cases_lt, cond-true, cond-false, le-leb, lt-ltb, ltb-true, and_parts, and_left, not-true}
+use Rattle.std.proofs.lemmas.Option.{cond_some, none-some}
+use Rattle.reading.specs.Words.{blank, turned, left_open, front, Word, between, inside, words_on, words_from}
+use Rattle.reading.specs.NextWord.{word_at, Found, words_left, Steps}
+use Rattle.reading.specs.declared.words.Word.{Word as Placed}
+use Rattle.reading.specs.declared.words.Words.{Words}
+use Rattle.std.specs.Iterator.{MakesProgress, item_count}
 
--- a blank between words is passed
-pub past_blank : (line : List ℕ) (n : ℕ) → n < length line → blank (get_or line n 0) ≡ true → words_from line (n + 1) ≡ words_from line n
-past_blank line n h b =
-    sym (at_drop_more (words_on between n) line n 0 h ∙ cond-true (blank (get_or line n 0)) _ _ b)
+-- how many blanks stand before the first other byte
+abbrev gap : List ℕ → ℕ
+gap t = position_or_len (λ b. not (blank b)) t
+
+-- blanks between words are passed
+past_blanks : (n : ℕ) (t : List ℕ) → words_on between n t ≡ words_on between (n + gap t) (drop (gap t) t)
+past_blanks n [] = refl
+past_blanks n (c ∷ cs) =
+    elim (cases_Bool (blank c)) [
+      | inl b ↦
+          (let m = gap cs in
+          let e : n + 1 + m ≡ n + suc m = omega arith in
+          let one : suc m ≡ 1 + m = omega arith in
+          simp b (past_blanks (n + 1) cs ∙ ap (λ (k : ℕ). words_on between k (drop m cs)) e ∙ ap (λ (k : ℕ). words_on between (n + k) (drop k (c ∷ cs))) one))
+      | inr b ↦ simp b (simp add-zero)
+    ]
 
 -- one byte more of a word
 pub front_more : (line : List ℕ) (n : ℕ) (quoted : Bool) → n < length line → (blank (get_or line n 0) && not quoted) ≡ false
@@ -53,7 +71,7 @@ behind quoted n (c ∷ cs) =
     ]
 
 -- the first word that begins at a place that holds no blank
-pub found : (line : List ℕ) (n start len : ℕ) → start < length line → blank (get_or line start 0) ≡ false → words_from line start ≡ words_from line n
+found : (line : List ℕ) (n start len : ℕ) → start < length line → blank (get_or line start 0) ≡ false → words_from line start ≡ words_from line n
     → len ≡ length (front false (drop start line)) → Found line n (record { start = start; len = len })
 found line n start len h b e l =
     let byte = get_or line start 0 in
@@ -78,3 +96,39 @@ found line n start len h b e l =
       some = omega arith;
       within = le-leb (start + len) (length line) (omega arith);
     }
+
+-- what stands from a place on
+from_place : {X : Type 0} (xs : List X) (n : ℕ) → take (length xs - n) (drop n xs) ≡ drop n xs
+from_place xs n = take_all (length xs - n) (drop n xs) (omega (arith, length-drop n xs))
+
+-- the first word from a place on, behind the blanks
+pub next_found : (line rest : List ℕ) (n i len : ℕ) → rest ≡ take (length line - n) (drop n line) → Some i ≡ position (λ b. not (blank b)) rest
+    → len ≡ length (front false (take (length line - (n + i)) (drop (n + i) line))) → Found line n (record { start = n + i; len = len })
+next_found line rest n i len e p l =
+    let q = cond_some (ltb (gap rest) (length rest)) (gap rest) i (sym p) in
+    let from : rest ≡ drop n line = e ∙ from_place line n in
+    let within = ltb-true (gap rest) (length rest) q.0 in
+    let at_rest : blank (get_or rest i 0) ≡ false = rw (← q.1) (not-true _ (passes_at_first (λ b. not (blank b)) rest 0 within)) in
+    let same : get_or rest i 0 ≡ get_or line (n + i) 0 = ap (λ (t : List ℕ). get_or t i 0) from ∙ get_or-drop n line i 0 in
+    let words : words_from line (n + i) ≡ words_from line n =
+    sym (ap (words_on between n) (sym from) ∙ past_blanks n rest ∙ rw q.1 (ap (λ (t : List ℕ). words_on between (n + i) (drop i t)) from ∙ ap (words_on between (n + i)) (drop-drop i n line))) in
+    found line n (n + i) len (omega (arith, ap length from, length-drop n line, q.1)) (ap blank (sym same) ∙ at_rest) words (l ∙ ap (λ (t : List ℕ). length (front false t)) (from_place line (n + i)))
+
+pub next_none : (line rest : List ℕ) (n : ℕ) → rest ≡ take (length line - n) (drop n line) → None ≡ position (λ b. not (blank b)) rest → words_from line n ≡ []
+next_none line rest n e p =
+    elim (cases_lt (gap rest) (length rest)) [
+      | inl l ↦ absurd (none-some (gap rest) (p ∙ cond-true (ltb (gap rest) (length rest)) _ _ (lt-ltb (gap rest) (length rest) l)))
+      | inr g ↦ ap (words_on between n) (sym (e ∙ from_place line n)) ∙ past_blanks n rest ∙ at_drop_all (words_on between (n + gap rest)) rest (gap rest) g
+    ]
+
+-- an open quote is carried along
+pub quote_carried : (quoted : Bool) (t : List ℕ) → fold (λ q c. turned c q) quoted t ≡ left_open quoted t
+quote_carried quoted [] = refl
+quote_carried quoted (c ∷ cs) = quote_carried (turned c quoted) cs
+
+-- one word fewer is left
+pub one_fewer : (s t : Words) (r : Option Placed) → Steps s r t → MakesProgress (λ _. Unit {0}) (item_count words_left) s r t
+one_fewer s t None h = record { on = λ _. tt; keeps = tt; rests = λ f. f }
+one_fewer s t (Some w) h =
+    let left : words_from s.line.now s.at ≡ word_at s.line.now w.place ∷ words_from t.line.now t.at = h.0.first ∙ rw (h.1.1.0, h.1.1.1) refl in
+    record { on = λ f. (tt, f, omega (arith, ap length left)); keeps = tt; rests = λ f. tt }

@@ -1,6 +1,5 @@
 mod Found
-mod Printed
 mod Named
-mod FloatBytes
+mod Parses
 mod Quotes
 mod Colons

@@ -1,19 +1,18 @@
 -- Words between quotes, and bare ones.
-use Rattle.std.proofs.Common.{◌≡◌, ℕ, zero, suc, ◌+◌, ◌-◌, ◌<◌, ◌≤◌, true, false, ◌&&◌, eqb, ltb, List, [], ◌∷◌, ◌++◌, length, get_or, take, drop, Some, None, sym, refl, ap, ◌∙◌, inl, inr, arith, length-append, length-drop, length-take}
-use Rattle.std.proofs.lemmas.List.{at_drop_more, take_all, take-take, take_more, drop-drop, append_cancel_right, get_or_at}
-use Rattle.std.proofs.lemmas.Bool.{and_parts, and_from, false≢true, eq-eqb, eqb-true, lt-ltb, ltb-true, leb-true, le-leb}
-use Rattle.std.proofs.lemmas.Bool.Decides.{nat_tests}
+use Rattle.std.proofs.Common.{◌≡◌, ℕ, zero, suc, ◌+◌, ◌-◌, ◌<◌, ◌≤◌, Bool, true, false, not, ◌&&◌, eqb, ltb, List, [], ◌∷◌, ◌++◌, length, get_or, take, drop, sym, refl, ap, ◌∙◌, inl, inr, arith, length-append, length-drop, length-take}
+use Rattle.std.proofs.lemmas.List.{take_all, take-take, take_more, drop-drop, append_cancel_right, get_or_at}
+use Rattle.std.proofs.lemmas.Bool.{cases_Bool, and_parts, and_from, false≢true, eq-eqb, eqb-true, lt-ltb, ltb-true, leb-true, le-leb}
+use Rattle.std.specs.Bool.{then_some}
+use Rattle.std.specs.List.{list_any}
 use Rattle.values.specs.declared.literals.Span.{Span}
 use Rattle.values.specs.Contents.{bytes_at}
 use Rattle.reading.specs.Literals.{quoteless, enclosed}
 use Rattle.reading.specs.Placed.{TextRead}
 
--- byte by byte
-pub at_quote : (t : List ℕ) (i : ℕ) → i < length t → get_or t i 0 ≡ 34 → quoteless (drop i t) ≡ false
-at_quote t i h e = at_drop_more quoteless t i 0 h ∙ rw e refl
-
-pub past_byte : (t : List ℕ) (i : ℕ) → i < length t → (get_or t i 0 ≡ 34 → ⊥) → quoteless (drop (i + 1) t) ≡ quoteless (drop i t)
-past_byte t i h n = let m = at_drop_more quoteless t i 0 h in grind (arith, nat_tests)
+-- no byte is a quote
+pub none_is_quote : (t : List ℕ) → not (list_any (λ c. eqb c 34) t) ≡ quoteless t
+none_is_quote [] = refl
+none_is_quote (c ∷ cs) = elim (cases_Bool (eqb c 34)) [ inl b ↦ simp b refl | inr b ↦ simp b (none_is_quote cs) ]
 
 -- the parts of an enclosed text
 split : (t : List ℕ) → 1 < length t → get_or t 0 0 ≡ 34 → get_or t (length t - 1) 0 ≡ 34 → t ≡ 34 ∷ (take (length t - 2) (drop 1 t) ++ (34 ∷ []))
@@ -55,16 +54,13 @@ inner line t w s e h p q =
     let i : take (length t - 2) (drop (w.start + 1) line) ≡ bytes_at line s = rw (p, q) refl in
     split t l (eqb-true (get_or t 0 0) 34 b.0) (eqb-true (get_or t (length t - 1) 0) 34 b.1) ∙ ap (λ (x : List ℕ). 34 ∷ (x ++ (34 ∷ []))) (m ∙ i)
 
-pub read_inner : (line t u : List ℕ) (w s : Span) → t ≡ bytes_at line w → true ≡ enclosed t → s.start ≡ w.start + 1 → s.len ≡ length t - 2
-    → u ≡ bytes_at line s → true ≡ quoteless u → TextRead line w (Some s)
-read_inner line t u w s e h p q f n =
+pub read_quoted : (line t u : List ℕ) (w s : Span) (q : Bool) → t ≡ bytes_at line w → true ≡ enclosed t → s.start ≡ w.start + 1 → s.len ≡ length t - 2
+    → u ≡ bytes_at line s → q ≡ quoteless u → TextRead line w (then_some q s)
+read_quoted line t u w s true e h p q f n =
     let l = long t h in
     let k = shorter line t w e in
     ((sym (n ∙ ap quoteless f), inr (sym e ∙ inner line t w s e h p q)), λ o. let b = leb-true (w.start + w.len) (length line) o in le-leb (s.start + s.len) (length line) (omega arith))
-
-pub no_inner : (line t u : List ℕ) (w s : Span) → t ≡ bytes_at line w → true ≡ enclosed t → s.start ≡ w.start + 1 → s.len ≡ length t - 2
-    → u ≡ bytes_at line s → false ≡ quoteless u → TextRead line w None
-no_inner line t u w s e h p q f n = λ x v.
+read_quoted line t u w s false e h p q f n = λ x v.
     let i = sym e ∙ inner line t w s e h p q in
     elim v.1 [
       | inl g ↦ false≢true (sym (ap quoteless (sym g ∙ i)) ∙ v.0)
@@ -72,9 +68,6 @@ no_inner line t u w s e h p q f n = λ x v.
           (let same : x ≡ bytes_at line s = append_cancel_right x (bytes_at line s) (34 ∷ []) (ap (drop 1) (sym g ∙ i)) in
           false≢true (n ∙ ap quoteless (f ∙ sym same) ∙ v.0))
     ]
-
-pub read_bare : (line t : List ℕ) (w : Span) → t ≡ bytes_at line w → true ≡ quoteless t → TextRead line w (Some w)
-read_bare line t w e n = ((sym (n ∙ ap quoteless e), inl refl), λ o. o)
 
 -- a text between quotes is enclosed
 enclosing : (x : List ℕ) → enclosed (34 ∷ (x ++ (34 ∷ []))) ≡ true
@@ -85,9 +78,10 @@ enclosing x =
     ap (λ (k : ℕ). get_or (34 ∷ (x ++ (34 ∷ []))) k 0) last ∙ get_or_at x 34 [] 0 (length x) refl in
     and_from _ _ (lt-ltb 1 (suc (length (x ++ (34 ∷ [])))) (omega arith)) (and_from _ _ refl (eq-eqb _ 34 byte))
 
-pub no_bare : (line t : List ℕ) (w : Span) → t ≡ bytes_at line w → false ≡ enclosed t → false ≡ quoteless t → TextRead line w None
-no_bare line t w e h n = λ x v.
+pub read_bare : (line t : List ℕ) (w : Span) (q : Bool) → t ≡ bytes_at line w → false ≡ enclosed t → q ≡ quoteless (bytes_at line w) → TextRead line w (then_some q w)
+read_bare line t w true e h n = ((sym n, inl refl), λ o. o)
+read_bare line t w false e h n = λ x v.
     elim v.1 [
-      | inl g ↦ false≢true (n ∙ ap quoteless (e ∙ g) ∙ v.0)
+      | inl g ↦ false≢true (n ∙ ap quoteless g ∙ v.0)
       | inr g ↦ false≢true (h ∙ ap enclosed (e ∙ g) ∙ enclosing x)
     ]

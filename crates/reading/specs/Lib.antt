@@ -3,3 +3,4 @@ pub mod NextWord
 pub mod Writing
 pub mod Literals
 pub mod Placed
+pub mod Printed

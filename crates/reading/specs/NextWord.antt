@@ -3,6 +3,8 @@ use Rattle.std.specs.Prelude.{◌≡◌, ℕ, ◌+◌, ◌<◌, true, List, [], 
 use Rattle.values.specs.declared.literals.Span.{Span}
 use Rattle.values.specs.Contents.{bytes_at, inside}
 use Rattle.reading.specs.Words.{Word, words_from}
+use Rattle.reading.specs.declared.words.Word.{Word as Placed}
+use Rattle.reading.specs.declared.words.Words.{Words}
 
 -- the word at a span of the line
 abbrev pub word_at : List ℕ → Span → Word
@@ -17,3 +19,12 @@ pub record Found (line : List ℕ) (n : ℕ) (s : Span) : Type 0 where
 abbrev pub Next : List ℕ → ℕ → Option Span → Type 0
 Next line n None = words_from line n ≡ []
 Next line n (Some s) = Found line n s
+
+-- the words that are left
+abbrev pub words_left : Words → List Word
+words_left s = words_from s.line.now s.at
+
+-- a call gave the first word of what was left and passed it, or none was left
+abbrev pub Steps : Words → Option Placed → Words → Type 0
+Steps s None t = Next s.line.now s.at None
+Steps s (Some w) t = Next s.line.now s.at (Some w.place) × ((w.line ≡ s.line) × ((t.line ≡ s.line) × (t.at ≡ w.place.start + w.place.len)))

@@ -4,90 +4,54 @@ ghost use Rattle.reading.specs.Literals.{quoteless, enclosed};
 ghost use Rattle.reading.specs.Placed.{TextRead, ValueRead, LiteralRead, FirstColon};
 
 use crate::kinds::read_kind;
-use crate::numbers::{parse_bytes, read_i32, read_i64};
-use crate::words::spells;
+use crate::numbers::{Number, parse};
+use crate::words::Word;
 use values::kinds::Storage;
 use values::literals::{Literal, Span, Value};
 
 fn is_quoteless(text: &[u8]) -> bool
     ensures has_no_quote { result ≡ quoteless text.now }
 {
-    for byte in text {
-        if *byte == b'"' {
-            return false;
-        }
-    }
-    true
+    !text.contains(&b'"')
 }
 
 // Whether a quote stands first and another last.
 fn is_enclosed(text: &[u8]) -> bool
     ensures begins_and_ends_with_one { result ≡ enclosed text.now }
 {
-    text.len() >= 2 && text[0] == b'"' && text[text.len() - 1] == b'"'
+    matches!(text, [b'"', .., b'"'])
 }
 
 // The place of the bytes that a word is, bare or between quotes.
-pub fn read_text(line: &[u8], word: Span) -> Option<Span>
-    ensures takes_the_quotes_off { TextRead line.now word result }
+pub fn read_text(word: Word) -> Option<Span>
+    ensures takes_the_quotes_off { TextRead word.entry.line.now word.entry.place result }
 {
-    let text = word.of(line);
-    if is_enclosed(text) {
-        let inner = Span {
-            start: word.start + 1,
+    let Word { line, place } = word;
+    let text = word.text();
+    let bare = if is_enclosed(text) {
+        Span {
+            start: place.start + 1,
             len: text.len() - 2,
-        };
-        if is_quoteless(inner.of(line)) {
-            Some(inner)
-        } else {
-            None
         }
-    } else if is_quoteless(text) {
-        Some(word)
     } else {
-        None
-    }
+        place
+    };
+    is_quoteless(bare.of(line)).then_some(bare)
 }
 
 // The value of a storage that a word is.
-fn read_value(line: &[u8], storage: Storage, word: Span) -> Option<Value>
-    ensures goes_by_the_storage { ValueRead line.now storage word result }
+fn read_value(word: Word, storage: Storage) -> Option<Value>
+    ensures goes_by_the_storage { ValueRead word.entry.line.now storage word.entry.place result }
 {
-    let text = word.of(line);
+    let text = word.text();
     match storage {
-        Storage::Boolean => {
-            if spells(text, b"true") {
-                Some(Value::Boolean(true))
-            } else if spells(text, b"false") {
-                Some(Value::Boolean(false))
-            } else {
-                None
-            }
-        }
-        Storage::Int => match read_i32(text) {
-            Some(n) => Some(Value::Int(n)),
-            None => None,
-        },
-        Storage::Long => match read_i64(text) {
-            Some(n) => Some(Value::Long(n)),
-            None => None,
-        },
-        Storage::Float => match parse_bytes::<f32>(text) {
-            Some(x) => Some(Value::Float(x)),
-            None => None,
-        },
-        Storage::Double => match parse_bytes::<f64>(text) {
-            Some(x) => Some(Value::Double(x)),
-            None => None,
-        },
-        Storage::String => match read_text(line, word) {
-            Some(span) => Some(Value::String(span)),
-            None => None,
-        },
-        Storage::Binary => match read_text(line, word) {
-            Some(span) => Some(Value::Binary(span)),
-            None => None,
-        },
+        Storage::Boolean => parse(text).map(Value::Boolean),
+        Storage::Int => i32::read(text).map(Value::Int),
+        Storage::Long => i64::read(text).map(Value::Long),
+        Storage::Float => parse(text).map(Value::Float),
+        Storage::Double => parse(text).map(Value::Double),
+        Storage::String => read_text(word).map(Value::String),
+        Storage::Binary => read_text(word).map(Value::Binary),
     }
 }
 
@@ -95,33 +59,23 @@ fn read_value(line: &[u8], storage: Storage, word: Span) -> Option<Value>
 fn first_colon(text: &[u8]) -> Option<usize>
     ensures is_the_first { FirstColon text.now result }
 {
-    for i in 0..text.len() {
-        if text[i] == b':' {
-            return Some(i);
-        }
-    }
-    None
+    text.iter().position(|byte| *byte == b':')
 }
 
 // The literal that a word of the line writes.
-pub fn read_literal(line: &[u8], word: Span) -> Option<Literal>
-    ensures is_written_so { LiteralRead line.now word result }
+pub fn read_literal(word: Word) -> Option<Literal>
+    ensures is_written_so { LiteralRead word.entry.line.now word.entry.place result }
 {
-    let text = word.of(line);
-    match first_colon(text) {
-        Some(colon) => match read_kind(&text[0..colon]) {
-            Some(kind) => {
-                let rest = Span {
-                    start: word.start + colon + 1,
-                    len: text.len() - colon - 1,
-                };
-                match read_value(line, kind.storage(), rest) {
-                    Some(value) => Some(Literal { kind, value }),
-                    None => None,
-                }
-            }
-            None => None,
+    let text = word.text();
+    let colon = first_colon(text)?;
+    let kind = read_kind(&text[..colon])?;
+    let rest = Word {
+        line: word.line,
+        place: Span {
+            start: word.place.start + colon + 1,
+            len: text.len() - colon - 1,
         },
-        None => None,
-    }
+    };
+    let value = read_value(rest, kind.storage())?;
+    Some(Literal { kind, value })
 }

@@ -1,14 +1,87 @@
 // The words of a line, one after another.
-ghost use Rattle.std.specs.Prelude.{◌≡◌, ◌+◌, ◌<◌, ◌≤◌, false, not, ◌&&◌, length, drop, Decides, slice_index};
-ghost use Rattle.reading.specs.Words.{blank, turned, left_open, front, words_from};
-ghost use Rattle.reading.specs.NextWord.{Next};
+ghost use Rattle.std.specs.Prelude.{◌≡◌, false, not, ◌&&◌, length, Decides, MatchOption, IsUtf8, position, fold};
+ghost use Rattle.std.specs.Iterator.{item_count};
+ghost use Rattle.values.specs.Contents.{bytes_at};
+ghost use Rattle.reading.specs.Words.{blank, turned, left_open, front};
+ghost use Rattle.reading.specs.NextWord.{Steps, words_left};
 
 use values::literals::Span;
+
+// A word of a line, by its place.
+#[derive(Clone, Copy)]
+pub struct Word<'a> {
+    pub line: &'a [u8],
+    pub place: Span,
+}
+
+impl<'a> Word<'a> {
+    // Its bytes.
+    pub fn text(self) -> &'a [u8]
+        ensures are_the_bytes_there { result.now ≡ bytes_at self.entry.line.now self.entry.place }
+    {
+        self.place.of(self.line)
+    }
+
+    // Whether it leaves a quote open.
+    pub fn is_left_open(self) -> bool
+        ensures counts_by_twos { result ≡ left_open false (bytes_at self.entry.line.now self.entry.place) }
+    {
+        leaves_open(self.text())
+    }
+
+    // Whether it is that word.
+    pub fn spells(self, word: &[u8]) -> bool
+        ensures tells_equal_bytes { Decides result (bytes_at self.entry.line.now self.entry.place ≡ word.now) }
+    {
+        self.text() == word
+    }
+}
+
+// What is left of a line: the words from a place on.
+#[derive(Clone, Copy)]
+pub struct Words<'a> {
+    pub line: &'a [u8],
+    pub at: usize,
+}
+
+impl<'a> Words<'a> {
+    pub fn of(line: &'a [u8]) -> Words<'a>
+        ensures begins { result ≡ record { line = line.entry; at = 0 } }
+    {
+        Words { line, at: 0 }
+    }
+}
+
+impl<'a> Iterator for Words<'a> {
+    type Item = Word<'a>;
+
+    ghost next_gives = { Steps };
+
+    ghost remaining = { item_count words_left };
+
+    fn next(&mut self) -> Option<Word<'a>> {
+        let rest = self.line.get(self.at..)?;
+        let start = self.at + blanks(rest)?;
+        let len = word_len(&self.line[start..]);
+        self.at = start + len;
+        Some(Word {
+            line: self.line,
+            place: Span { start, len },
+        })
+    }
+}
+
+// The bytes as text, if they are any.
+pub fn as_str(bytes: &[u8]) -> Option<&str>
+    ensures is_text_of_those_bytes { MatchOption result (IsUtf8 bytes.now → ⊥) (λ s. s.now ≡ bytes.now) }
+{
+    std::str::from_utf8(bytes).ok()
+}
 
 fn is_blank(byte: u8) -> bool
     ensures asks_for_three { result ≡ blank byte }
 {
-    byte == b' ' || byte == b'\t' || byte == b'\r'
+    matches!(byte, b' ' | b'\t' | b'\r')
 }
 
 // Whether the byte ends a word.
@@ -25,61 +98,30 @@ fn turn(byte: u8, quoted: bool) -> bool
     if byte == b'"' { !quoted } else { quoted }
 }
 
-// The first place from `from` on that holds no blank, or the line's end.
-fn skip_blanks(line: &[u8], from: usize) -> usize
-    ensures passes_no_word { words_from line.now result ≡ words_from line.now from }
-    ensures ends_at_no_blank { result < length line.now → blank (slice_index line.now result) ≡ false }
-    ensures goes_on { from ≤ result }
+// Whether a quote is open at the end.
+fn leaves_open(text: &[u8]) -> bool
+    ensures turns_at_each { result ≡ fold (λ quoted byte. turned byte quoted) false text.now }
 {
-    let mut at = from;
-    while at < line.len() && is_blank(line[at]) {
-        at += 1;
-    }
-    at
+    text.iter().fold(false, |quoted, byte| turn(*byte, quoted))
 }
 
-// Where the word that begins at `from` ends.
-fn word_end(line: &[u8], from: usize) -> usize
-    ensures takes_the_word { result ≡ from + length (front false (drop from line.now)) }
+// How many blanks stand before the first other byte.
+fn blanks(text: &[u8]) -> Option<usize>
+    ensures is_the_place_of_the_other { result ≡ position (λ b. not (blank b)) text.now }
 {
-    let mut at = from;
-    let mut quoted = false;
-    while at < line.len() && !ends_word(line[at], quoted) {
-        quoted = turn(line[at], quoted);
-        at += 1;
-    }
-    at
+    text.iter().position(|byte| !is_blank(*byte))
 }
 
-// The first word from a place of the line on.
-pub fn next_word(line: &[u8], from: usize) -> Option<Span>
-    ensures is_the_next { Next line.now from result }
-{
-    let start = skip_blanks(line, from);
-    if start >= line.len() {
-        return None;
-    }
-    let end = word_end(line, start);
-    Some(Span {
-        start,
-        len: end - start,
-    })
-}
-
-// Whether a quote is left open.
-pub fn is_left_open(text: &[u8]) -> bool
-    ensures counts_by_twos { result ≡ left_open false text.now }
+// How many bytes the word has that the text begins with.
+fn word_len(text: &[u8]) -> usize
+    ensures takes_the_word { result ≡ length (front false text.now) }
 {
     let mut quoted = false;
-    for byte in text {
+    for (i, byte) in text.iter().enumerate() {
+        if ends_word(*byte, quoted) {
+            return i;
+        }
         quoted = turn(*byte, quoted);
     }
-    quoted
-}
-
-// Whether the text is that word.
-pub fn spells(text: &[u8], word: &[u8]) -> bool
-    ensures tells_equal_bytes { Decides result (text.now ≡ word.now) }
-{
-    text == word
+    text.len()
 }

@@ -1,42 +1,30 @@
-use Rattle.std.proofs.Common.{◌+◌, ◌-◌, ◌<◌, length, refl, arith, rules}
-use Rattle.reading.proofs.Quotes.{room, long, read_inner, no_inner, read_bare, no_bare}
+use Rattle.std.proofs.Common.{ap, ◌∙◌}
+use Rattle.values.specs.declared.literals.Span.{Span}
+use Rattle.values.specs.Contents.{bytes_at}
+use Rattle.reading.specs.Literals.{quoteless}
+use Rattle.reading.proofs.Quotes.{read_quoted, read_bare}
 use Rattle.reading.proofs.literals.read_text.Goals as goal
+use Rattle.reading.proofs.literals.read_text.Goals.{then-is_enclosed, else-is_enclosed}
 
-pub overflow_add-inner : goal.overflow_add-inner
-overflow_add-inner c =
-    let r : c.args.word.start + 1 < length c.args.line.now =
-    room c.args.line.now c.of-text.result.now c.args.word 1 c.of-text.ensures.are_the_bytes_there (long c.of-text.result.now c.if-is_enclosed.ensures.begins_and_ends_with_one) in
-    search rules
-
-pub overflow_sub-inner : goal.overflow_sub-inner
-overflow_sub-inner c = let l = long c.of-text.result.now c.if-is_enclosed.ensures.begins_and_ends_with_one in omega arith
-
-pub returns-then-is_quoteless : goal.returns-then-is_quoteless
-returns-then-is_quoteless c =
-    record {
-      takes_the_quotes_off =
-          read_inner c.args.line.now c.of-text.result.now c.of.result.now c.args.word _
-          c.of-text.ensures.are_the_bytes_there c.if-is_enclosed.ensures.begins_and_ends_with_one refl refl
-          c.of.ensures.are_the_bytes_there c.if-is_quoteless.ensures.has_no_quote;
-    }
-
-pub returns-else-is_quoteless : goal.returns-else-is_quoteless
-returns-else-is_quoteless c =
-    record {
-      takes_the_quotes_off =
-          no_inner c.args.line.now c.of-text.result.now c.of.result.now c.args.word (record { start = c.args.word.start + 1; len = length c.of-text.result.now - 2 })
-          c.of-text.ensures.are_the_bytes_there c.if-is_enclosed.ensures.begins_and_ends_with_one refl refl
-          c.of.ensures.are_the_bytes_there c.if-is_quoteless.ensures.has_no_quote;
-    }
-
-pub returns-then-is_quoteless-2 : goal.returns-then-is_quoteless-2
-returns-then-is_quoteless-2 c =
-    record { takes_the_quotes_off = read_bare c.args.line.now c.of-text.result.now c.args.word c.of-text.ensures.are_the_bytes_there c.if-is_quoteless-2.ensures.has_no_quote }
-
-pub returns-else-is_quoteless-2 : goal.returns-else-is_quoteless-2
-returns-else-is_quoteless-2 c =
-    record {
-      takes_the_quotes_off =
-          no_bare c.args.line.now c.of-text.result.now c.args.word c.of-text.ensures.are_the_bytes_there
-          c.if-is_enclosed.ensures.begins_and_ends_with_one c.if-is_quoteless-2.ensures.has_no_quote;
-    }
+pub returns : goal.returns
+returns c =
+    let line = c.args.word.line.now in
+    elim c.if-is_enclosed.branch [
+      | then-is_enclosed w ↦
+          rw c.then_some.ensures
+          (record {
+            takes_the_quotes_off =
+                read_quoted line c.text-text.result.now c.of.result.now c.args.word.place c.if-is_enclosed.bare c.is_quoteless.result
+                c.text-text.ensures.are_the_bytes_there w.if-is_enclosed.ensures.begins_and_ends_with_one
+                (ap (λ (s : Span). s.start) w.bare-is) (ap (λ (s : Span). s.len) w.bare-is)
+                c.of.ensures.are_the_bytes_there c.is_quoteless.ensures.has_no_quote;
+          })
+      | else-is_enclosed w ↦
+          rw (c.then_some.ensures, w.bare-is)
+          (record {
+            takes_the_quotes_off =
+                read_bare line c.text-text.result.now c.args.word.place c.is_quoteless.result
+                c.text-text.ensures.are_the_bytes_there w.if-is_enclosed.ensures.begins_and_ends_with_one
+                (c.is_quoteless.ensures.has_no_quote ∙ ap quoteless c.of.ensures.are_the_bytes_there ∙ ap (λ (s : Span). quoteless (bytes_at line s)) w.bare-is);
+          })
+    ]

@@ -1,15 +1,16 @@
 -- Numbers that are read as they are printed.
-use Rattle.std.proofs.Common.{◌≡◌, ℕ, zero, suc, ◌^◌, ◌<◌, ◌≤◌, true, false, List, [], ◌∷◌, length, get_or, drop, ℤ, pos, negsuc, neg_ℤ, Ok, Err, decimal, Option, Result, sym, refl, ap, ◌∙◌, inl, inr, arith, length-drop, SFits}
+use Rattle.std.proofs.Common.{◌≡◌, ℕ, zero, suc, ◌^◌, ◌<◌, ◌≤◌, leb, true, List, [], ◌∷◌, length, get_or, drop, ℤ, pos, negsuc, neg_ℤ, Ok, Err, decimal, Option, Result, sym, refl, ap, ◌∙◌, inl, inr, arith, length-drop, SFits}
 use lib.Signed.{mag}
 use mir.Syntax.{Width}
 use mir.Val.{hbits}
 use Rattle.std.specs.Str.Parse.{ExplainsUnsignedError, ExplainsSignedError, AllDigits, digits_value, ParsesUnsigned, ParsesSigned, HasUnsignedDigitsIfOk, HasSignedDigitsIfOk}
+use Rattle.std.specs.declared.num.ParseIntError.{ParseIntError}
 use Rattle.std.specs.Fmt.{signed_decimal}
 use Rattle.std.specs.Result.{result_ok}
 use Rattle.std.proofs.lemmas.Fmt.{decimal-digits_value, decimal_digit, first_decimal, decimal_nonempty, parse-decimal, parse-signed_decimal, IsAscii-decimal, IsAscii-signed}
 use Rattle.std.proofs.lemmas.Str.Parse.{IsNumeralModel, numerals_by_value, tells_digits, parse_plain, parse_signed_plain, parse_signed_minus}
 use Rattle.std.proofs.lemmas.Str.{IsUtf8-from_ascii}
-use Rattle.std.proofs.lemmas.Bool.{cases_eq, false≢true}
+use Rattle.std.proofs.lemmas.Bool.{cases_eq, leb-true}
 use Rattle.std.proofs.lemmas.Bool.Decides.{nat_tests}
 use Rattle.reading.specs.Writing.{Reads, Natural, Integer, plain, Parsed}
 
@@ -81,19 +82,19 @@ integer_read {E} w b bs (Err e) p h = λ z t.
     let o : ◌≡◌ {A = ℕ} 0 1 = cc in omega arith
 
 -- what std reads in a plain text is what is printed
-pub natural_of : (k : ℕ) → 2 ^ k ≤ 2 ^ 64 → (bs : List ℕ) (o : Option ℕ) → true ≡ plain bs
-    → Parsed (λ t r. ParsesUnsigned k 10 t r × ExplainsUnsignedError 10 t r × HasUnsignedDigitsIfOk t r) bs o → Reads (Natural k) bs o
-natural_of k b bs o p (inl h) = rw h.1 (λ n w. h.0 (rw w.1 (IsUtf8-from_ascii (decimal n) (IsAscii-decimal n (omega (arith, w.0))))))
-natural_of k b bs o p (inr h) = rw h.1.1 (natural_read k b bs h.0 (sym p) h.1.0.0)
+pub natural_is_read : (k : ℕ) → leb (2 ^ k) (2 ^ 64) ≡ true → (bs : List ℕ) (o : Option ℕ) → plain bs ≡ true
+    → Parsed {E = ParseIntError} (λ t r. ParsesUnsigned k 10 t r × ExplainsUnsignedError 10 t r × HasUnsignedDigitsIfOk t r) bs o → Reads (Natural k) bs o
+natural_is_read k b bs o p (inl h) = let l = leb-true (2 ^ k) (2 ^ 64) b in rw h.1 (λ n w. h.0 (rw w.1 (IsUtf8-from_ascii (decimal n) (IsAscii-decimal n (omega (arith, w.0))))))
+natural_is_read k b bs o p (inr h) = rw h.1.1 (natural_read k (leb-true (2 ^ k) (2 ^ 64) b) bs h.0 p h.1.0.0)
 
-pub integer_of : (w : Width) → 2 ^ hbits w ≤ 2 ^ 63 → (bs : List ℕ) (o : Option ℤ) → true ≡ plain bs
-    → Parsed (λ t r. ParsesSigned w 10 t r × ExplainsSignedError 10 t r × HasSignedDigitsIfOk t r) bs o → Reads (Integer w) bs o
-integer_of w b bs o p (inl h) = rw h.1 (λ z t. h.0 (rw t.1 (IsUtf8-from_ascii (signed_decimal z) (IsAscii-signed z (omega (arith, t.0.sfits))))))
-integer_of w b bs o p (inr h) = rw h.1.1 (integer_read w b bs h.0 (sym p) h.1.0.0)
+pub integer_is_read : (w : Width) → leb (2 ^ hbits w) (2 ^ 63) ≡ true → (bs : List ℕ) (o : Option ℤ) → plain bs ≡ true
+    → Parsed {E = ParseIntError} (λ t r. ParsesSigned w 10 t r × ExplainsSignedError 10 t r × HasSignedDigitsIfOk t r) bs o → Reads (Integer w) bs o
+integer_is_read w b bs o p (inl h) = let l = leb-true (2 ^ hbits w) (2 ^ 63) b in rw h.1 (λ z t. h.0 (rw t.1 (IsUtf8-from_ascii (signed_decimal z) (IsAscii-signed z (omega (arith, t.0.sfits))))))
+integer_is_read w b bs o p (inr h) = rw h.1.1 (integer_read w (leb-true (2 ^ hbits w) (2 ^ 63) b) bs h.0 p h.1.0.0)
 
--- what is not plain is printed for no number
-pub no_natural : (k : ℕ) → 2 ^ k ≤ 2 ^ 64 → (bs : List ℕ) → false ≡ plain bs → (n : ℕ) → Natural k n bs → ⊥
-no_natural k b bs p n w = false≢true (p ∙ ap plain w.1 ∙ plain-decimal n (omega (arith, w.0)))
+-- what is printed is plain
+pub natural_is_plain : (k : ℕ) → leb (2 ^ k) (2 ^ 64) ≡ true → (n : ℕ) (bs : List ℕ) → Natural k n bs → plain bs ≡ true
+natural_is_plain k b n bs w = let l = leb-true (2 ^ k) (2 ^ 64) b in ap plain w.1 ∙ plain-decimal n (omega (arith, w.0))
 
-pub no_integer : (w : Width) → 2 ^ hbits w ≤ 2 ^ 63 → (bs : List ℕ) → false ≡ plain bs → (z : ℤ) → Integer w z bs → ⊥
-no_integer w b bs p z t = false≢true (p ∙ ap plain t.1 ∙ plain_signed z (omega (arith, t.0.sfits)))
+pub integer_is_plain : (w : Width) → leb (2 ^ hbits w) (2 ^ 63) ≡ true → (z : ℤ) (bs : List ℕ) → Integer w z bs → plain bs ≡ true
+integer_is_plain w b z bs t = let l = leb-true (2 ^ hbits w) (2 ^ 63) b in ap plain t.1 ∙ plain_signed z (omega (arith, t.0.sfits))

@@ -1,8 +1,10 @@
--- Texts that std reads as floats.
-use Rattle.std.proofs.Common.{◌≡◌, ℕ, ◌<◌, ◌≤◌, Bool, true, false, ◌&&◌, ◌||◌, eqb, ltb, List, [], ◌∷◌, None, Ok, Err, IsAscii, Option, Result, sym, refl, ap, ◌∙◌, inl, inr, arith}
+-- Texts that std reads as floats and truth values.
+use Rattle.std.proofs.Common.{◌≡◌, ℕ, ◌<◌, ◌≤◌, Bool, true, false, ◌&&◌, ◌||◌, eqb, ltb, List, [], ◌∷◌, None, Ok, Err, IsAscii, IsUtf8, Some, cond, codes, Option, Result, sym, refl, ap, ◌∙◌, inl, inr, arith}
 use lib.Ieee.{Float, Format, binary32, binary64}
 use Rattle.std.specs.Float.Parse.{float_scan_step, completes_number, lowercases_to, without_sign, is_infinity_text, is_nan_text, is_float_text, ParsesFloat, IsParseFloatResult}
 use Rattle.std.specs.Result.{result_ok}
+use Rattle.std.specs.Option.{MatchOption}
+use Rattle.std.specs.Str.Parse.{ParsesBool}
 use Rattle.std.specs.Char.{to_ascii_lowercase}
 use Rattle.std.proofs.lemmas.Str.Ascii.{IsAscii-nil, IsAscii-cons}
 use Rattle.std.proofs.lemmas.Bool.{cases_Bool, cases_lt, false≢true, and_parts, or_cases, eqb-true, ltb-true}
@@ -11,8 +13,12 @@ use Rattle.std.proofs.lemmas.Bool.Decides.{nat_tests}
 use Rattle.reading.specs.Writing.{Reads, Parsed}
 use Rattle.values.specs.declared.kinds.Storage.{Storage}
 use Rattle.values.specs.declared.kinds.Storage.TheVariants as S
-use Rattle.values.specs.Contents.{Content}
-use Rattle.reading.specs.Literals.{FloatText, Wording}
+use Rattle.values.specs.declared.literals.Span.{Span}
+use Rattle.values.specs.declared.literals.Value.{Value}
+use Rattle.values.specs.declared.literals.Value.TheVariants as V
+use Rattle.values.specs.Contents.{bytes_at}
+use Rattle.reading.specs.Literals.{FloatText}
+use Rattle.reading.specs.Placed.{ValueRead}
 
 -- past a byte that no number has, nothing is one
 stuck : (c : ℕ) → float_scan_step 7 c ≡ 7
@@ -75,13 +81,35 @@ float_read : {E : Type 0} (f : Format) (k : ℕ) (bs : List ℕ) (r : Result Flo
 float_read f k bs (Ok x) h = (sym h.0, λ n l. let e = h.1 n l in cc)
 float_read f k bs (Err e) h = λ x w. false≢true (h.0 ∙ w.0)
 
-pub float_of : {E : Type 0} (f : Format) (k : ℕ) (bs : List ℕ) (o : Option Float) → Parsed {E = E} (λ t r. ParsesFloat f k t r × IsParseFloatResult f t r) bs o → Reads (FloatText f k) bs o
+float_of : {E : Type 0} (f : Format) (k : ℕ) (bs : List ℕ) (o : Option Float) → Parsed {E = E} (λ t r. ParsesFloat f k t r × IsParseFloatResult f t r) bs o → Reads (FloatText f k) bs o
 float_of f k bs o (inl h) = rw h.1 (λ x w. h.0 (IsUtf8-from_ascii bs (float_ascii bs w.0)))
 float_of f k bs o (inr h) = rw h.1.1 (float_read f k bs h.0 h.1.0.0)
 
--- where std reads none, no content of the storage is written
-pub no_single : {E : Type 0} (s : Storage) (t bs : List ℕ) → s ≡ S.Float → t ≡ bs → Parsed {E = E} (λ u r. ParsesFloat binary32 32 u r × IsParseFloatResult binary32 u r) t None → (c : Content) → Wording s c bs → ⊥
-no_single s t bs e p h c w = let v : Wording S.Float c bs = rw e at w in float_of binary32 32 bs None (rw p at h) v.0 v.1.1
+-- the value m that is made of what std reads
+pub single_value : {E : Type 0} (line t : List ℕ) (s : Storage) (w : Span) (o : Option Float) (m : Option Value) → s ≡ S.Float → t ≡ bytes_at line w
+    → Parsed {E = E} (λ u r. ParsesFloat binary32 32 u r × IsParseFloatResult binary32 u r) t o → MatchOption o (m ≡ None) (λ x. m ≡ Some (V.Float x)) → ValueRead line s w m
+single_value line t s w (Some x) m k e h g = let r = float_of binary32 32 t (Some x) h in rw (k, g) ((x, (refl, (rw e at r))), λ o. refl)
+single_value line t s w None m k e h g = rw (k, g) (λ c v. float_of binary32 32 t None h v.0 (rw (← e) at v.1.1))
 
-pub no_double : {E : Type 0} (s : Storage) (t bs : List ℕ) → s ≡ S.Double → t ≡ bs → Parsed {E = E} (λ u r. ParsesFloat binary64 64 u r × IsParseFloatResult binary64 u r) t None → (c : Content) → Wording s c bs → ⊥
-no_double s t bs e p h c w = let v : Wording S.Double c bs = rw e at w in float_of binary64 64 bs None (rw p at h) v.0 v.1.1
+pub double_value : {E : Type 0} (line t : List ℕ) (s : Storage) (w : Span) (o : Option Float) (m : Option Value) → s ≡ S.Double → t ≡ bytes_at line w
+    → Parsed {E = E} (λ u r. ParsesFloat binary64 64 u r × IsParseFloatResult binary64 u r) t o → MatchOption o (m ≡ None) (λ x. m ≡ Some (V.Double x)) → ValueRead line s w m
+double_value line t s w (Some x) m k e h g = let r = float_of binary64 64 t (Some x) h in rw (k, g) ((x, (refl, (rw e at r))), λ o. refl)
+double_value line t s w None m k e h g = rw (k, g) (λ c v. float_of binary64 64 t None h v.0 (rw (← e) at v.1.1))
+
+words_are_text : (b : Bool) → IsUtf8 (cond b (codes "true") (codes "false"))
+words_are_text true = IsUtf8-from_ascii (codes "true") (spelt_ascii (codes "true") (codes "true") refl refl)
+words_are_text false = IsUtf8-from_ascii (codes "false") (spelt_ascii (codes "false") (codes "false") refl refl)
+
+truth_of : {E : Type 0} (t : List ℕ) (r : Result Bool E) → ParsesBool t r → Reads (λ b u. u ≡ cond b (codes "true") (codes "false")) t (result_ok r)
+truth_of t (Ok true) h = h
+truth_of t (Ok false) h = h
+truth_of t (Err e) h = elim [ true ↦ h.0 | false ↦ h.1 ]
+
+truth_read : {E : Type 0} (t : List ℕ) (o : Option Bool) → Parsed {E = E} ParsesBool t o → Reads (λ b u. u ≡ cond b (codes "true") (codes "false")) t o
+truth_read t o (inl h) = rw h.1 (λ b e. h.0 (rw e (words_are_text b)))
+truth_read t o (inr h) = rw h.1.1 (truth_of t h.0 h.1.0)
+
+pub truth_value : {E : Type 0} (line t : List ℕ) (s : Storage) (w : Span) (o : Option Bool) (m : Option Value) → s ≡ S.Boolean → t ≡ bytes_at line w
+    → Parsed {E = E} ParsesBool t o → MatchOption o (m ≡ None) (λ b. m ≡ Some (V.Boolean b)) → ValueRead line s w m
+truth_value line t s w (Some b) m k e h g = let r = truth_read t (Some b) h in rw (k, g) ((b, (refl, (sym e ∙ r))), λ o. refl)
+truth_value line t s w None m k e h g = rw (k, g) (λ c v. truth_read t None h v.0 (e ∙ v.1.1))
