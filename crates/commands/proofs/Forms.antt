@@ -1,45 +1,61 @@
 -- Commands by their words.
-use Rattle.std.proofs.Common.{◌≡◌, ℕ, ◌+◌, ◌<◌, false, List, [], ◌∷◌, length, get_or, drop, Err, codes, Decides, Result, sym, refl, ap, ◌∙◌, subst, arith, length-drop, length-take}
+use Rattle.std.proofs.Common.{◌≡◌, ℕ, ◌+◌, false, List, [], ◌∷◌, length, get_or, drop, Some, None, Ok, Err, Option, codes, Decides, ltb, true, IsAscii, IsUtf8, Result, sym, refl, ap, ◌∙◌, subst, inl, inr, arith}
 use Rattle.std.specs.Str.{bytes_eq}
 use Rattle.std.proofs.lemmas.Slice.Eq.{bytes_eq-Decides}
-use Rattle.std.proofs.lemmas.Bool.{cond_both, leb-true, ne_eqb}
-use Rattle.std.proofs.lemmas.Bool.Decides.{same_from_decides}
+use Rattle.std.specs.List.{list_all}
+use Rattle.std.proofs.lemmas.Bool.{cases_Bool, false≢true, cond_both, and_parts, ltb-true, ne_eqb}
+use Rattle.std.proofs.lemmas.Str.{IsUtf8-from_ascii}
+use Rattle.std.proofs.lemmas.Str.Ascii.{IsAscii-nil, IsAscii-cons}
 use Rattle.values.specs.declared.literals.Span.{Span}
 use Rattle.values.specs.Contents.{bytes_at}
 use Rattle.reading.specs.Words.{Word, left_open, words_from, words}
-use Rattle.reading.specs.NextWord.{word_at, Found}
+use Rattle.reading.specs.declared.words.Words.{Words}
+use Rattle.reading.specs.NextWord.{words_left, Found}
 use Rattle.commands.specs.declared.command.Command.{Command}
 use Rattle.commands.specs.declared.command.Malformed.{Malformed}
 use Rattle.commands.specs.declared.command.Fault.TheVariants as F
+use Rattle.std.specs.Result.{MatchResult}
+use Rattle.std.specs.Option.{ok_or}
+use Rattle.values.specs.declared.literals.Literal.{Literal}
+use Rattle.commands.specs.declared.command.CellWord.{CellWord}
+use Rattle.commands.specs.declared.command.CellWord.TheVariants as W
+use Rattle.commands.specs.Spelling.{Item, literal, cell_items}
 use Rattle.commands.specs.Grammar.{Part, a_literal, a_number, the, cell_parts, parent_parts, wanted, Faulty, FaultyBehind, FaultyLine, passed_over, at_word}
-use Rattle.commands.specs.Steps.{CommandRead, Follows}
+use Rattle.commands.specs.Steps.{Passed, Done, CommandRead, Follows}
 
 -- the word is its place and its text
-pub dispatched : (line t k : List ℕ) (place n : ℕ) (r : Result Command Malformed) → t ≡ k → Follows k line n r → CommandRead line (record { place = place; text = t }) (words_from line n) r
-dispatched line t k place n r e h = rw e (h place)
+pub dispatched : (s : Words) (t k : List ℕ) (place : ℕ) (r : Result Command Malformed) → t ≡ k → Follows k s r → CommandRead s.line.now (record { place = place; text = t }) (words_left s) r
+dispatched s t k place r e h = rw e (h place)
 
 -- not that word
-unlike : (t w : List ℕ) → Decides false (t ≡ w) → bytes_eq t w ≡ false
-unlike t w h = sym (same_from_decides false (bytes_eq t w) h (bytes_eq-Decides t w))
+unlike : (t w : List ℕ) → (t ≡ w → ⊥) → bytes_eq t w ≡ false
+unlike t w h = elim (cases_Bool (bytes_eq t w)) [ inl e ↦ absurd (h ((bytes_eq-Decides t w).0 e)) | inr e ↦ e ]
 
--- a word that begins no command
-pub unknown : (e : ℕ) (w : Word) (ws : List Word)
-    → Decides false (w.text ≡ codes "equal") → Decides false (w.text ≡ codes "compare") → Decides false (w.text ≡ codes "convert") → Decides false (w.text ≡ codes "field")
-    → Decides false (w.text ≡ codes "schema") → Decides false (w.text ≡ codes "find") → Decides false (w.text ≡ codes "find-any-case") → Decides false (w.text ≡ codes "row")
-    → Decides false (w.text ≡ codes "cell") → Decides false (w.text ≡ codes "get")
-    → FaultyBehind e w ws (wanted w.text ws) (at_word F.UnknownCommand w)
-unknown e w ws a b c d f g h i j k =
+ascii : (bs : List ℕ) → list_all (λ c. ltb c 128) bs ≡ true → IsAscii bs
+ascii [] h = IsAscii-nil
+ascii (c ∷ cs) h = let p = and_parts (ltb c 128) (list_all (λ d. ltb d 128) cs) h in IsAscii-cons c cs (ltb-true c 128 p.0) (ascii cs p.1)
+
+pub utf8 : (w : List ℕ) → list_all (λ c. ltb c 128) w ≡ true → IsUtf8 w
+utf8 w a = IsUtf8-from_ascii w (ascii w a)
+
+no_text : (t w : List ℕ) → (IsUtf8 t → ⊥) → list_all (λ c. ltb c 128) w ≡ true → bytes_eq t w ≡ false
+no_text t w n a = unlike t w (λ e. n (rw e (utf8 w a)))
+
+-- what is no text begins no command
+pub unknown : (e : ℕ) (w : Word) (ws : List Word) → (IsUtf8 w.text → ⊥) → FaultyBehind e w ws (wanted w.text ws) (at_word F.UnknownCommand w)
+unknown e w ws n =
+    let t = w.text in
     rw (
-      unlike w.text (codes "equal") a,
-      unlike w.text (codes "compare") b,
-      unlike w.text (codes "convert") c,
-      unlike w.text (codes "field") d,
-      unlike w.text (codes "schema") f,
-      unlike w.text (codes "find") g,
-      unlike w.text (codes "find-any-case") h,
-      unlike w.text (codes "row") i,
-      unlike w.text (codes "cell") j,
-      unlike w.text (codes "get") k,
+      no_text t (codes "equal") n refl,
+      no_text t (codes "compare") n refl,
+      no_text t (codes "convert") n refl,
+      no_text t (codes "field") n refl,
+      no_text t (codes "schema") n refl,
+      no_text t (codes "find") n refl,
+      no_text t (codes "find-any-case") n refl,
+      no_text t (codes "row") n refl,
+      no_text t (codes "cell") n refl,
+      no_text t (codes "get") n refl,
     ) refl
 
 -- a cell's first word is missing or open
@@ -52,31 +68,39 @@ no_cell_word e (w ∷ ws) m h =
     (λ _. cond_both (bytes_eq w.text (codes "list")) _ _ P (λ _. h (the (codes "list")) []) (λ _. h a_literal [])))
 
 -- a cell's first word is none of its own
-pub cell-literal : (w : Word) (ws : List Word) → Decides false (w.text ≡ codes "null") → Decides false (w.text ≡ codes "group") → Decides false (w.text ≡ codes "list")
-    → cell_parts (w ∷ ws) ≡ a_literal ∷ []
+cell-literal : (w : Word) (ws : List Word) → (w.text ≡ codes "null" → ⊥) → (w.text ≡ codes "group" → ⊥) → (w.text ≡ codes "list" → ⊥) → cell_parts (w ∷ ws) ≡ a_literal ∷ []
 cell-literal w ws a b c = rw (unlike w.text (codes "null") a, unlike w.text (codes "group") b, unlike w.text (codes "list") c) refl
 
-pub cell_value : (e : ℕ) (line t : List ℕ) (n : ℕ) (s : Span) (m : Malformed) → Found line n s → t ≡ bytes_at line s
-    → Decides false (t ≡ codes "null") → Decides false (t ≡ codes "group") → Decides false (t ≡ codes "list")
-    → Faulty e (a_literal ∷ []) (words_from line n) m → Faulty e (cell_parts (words_from line n)) (words_from line n) m
-cell_value e line t n s m f q a b c h =
-    let P : List Part → Type 0 = λ ps. Faulty e ps (words_from line n) m in
-    let same : cell_parts (words_from line n) ≡ a_literal ∷ [] =
-    ap cell_parts f.first ∙ cell-literal (word_at line s) (words_from line (s.start + s.len)) (rw q at a) (rw q at b) (rw q at c) in
-    subst P (sym same) h
+pub cell_value : (s : Words) (w : Word) (ws : List Word) (r : Result Literal Malformed) (m : Result CellWord Malformed) → words_left s ≡ w ∷ ws
+    → (w.text ≡ codes "null" → ⊥) → (w.text ≡ codes "group" → ⊥) → (w.text ≡ codes "list" → ⊥)
+    → Done (a_literal ∷ []) (λ x. literal x ∷ []) s r → MatchResult r (λ x. m ≡ Ok (W.Value x)) (λ e. m ≡ Err e) → Done (cell_parts (words_left s)) cell_items s m
+cell_value s w ws (Ok x) m e a b c h g = rw g h
+cell_value s w ws (Err f) m e a b c h g =
+    let P : List Part → Type 0 = λ ps. Faulty (length s.line.now) ps (words_left s) f in
+    rw g (subst P (sym (ap cell_parts e ∙ cell-literal w ws a b c)) h)
+
+-- where no name is found, the fault is the one given
+pub no_name : {X : Type 0} (o : Option X) (e m : Malformed) → ◌≡◌ {A = Result X Malformed} (Err m) (ok_or o e) → (o ≡ None) × (m ≡ e)
+no_name None e m h = (refl, grind arith)
+no_name (Some x) e m h = absurd (grind arith)
+
+-- behind four words a parent is named, if there is a word
+pub parent_begins : (ws : List Word) → Decides false (ws ≡ []) → parent_parts ws ≡ the (codes "in") ∷ a_number 64 ∷ []
+parent_begins [] h = absurd (false≢true (h.1 refl))
+parent_begins (w ∷ ws) h = refl
+
+-- a word is passed
+behind_one : (s t : Words) (p : Part) (i : Item) → Passed s p i t → (w : Word) × (words_left s ≡ w ∷ words_left t)
+behind_one s t p i h = (h.1.0, rw h.0 h.1.1.0)
 
 -- behind four words the parent begins
-pub parent_fault : (e : ℕ) (line : List ℕ) (a b c d f : ℕ) (w x y z : Word) (m : Malformed)
-    → words_from line a ≡ w ∷ words_from line b → words_from line b ≡ x ∷ words_from line c → words_from line c ≡ y ∷ words_from line d → words_from line d ≡ z ∷ words_from line f
-    → Faulty e (parent_parts (words_from line f)) (words_from line f) m → Faulty e (parent_parts (drop 4 (words_from line a))) (words_from line f) m
-parent_fault e line a b c d f w x y z m p q r s h =
-    let P : List Word → Type 0 = λ ws. Faulty e (parent_parts ws) (words_from line f) m in
-    subst P (sym (ap (drop 4) p ∙ ap (drop 3) q ∙ ap (drop 2) r ∙ ap (drop 1) s)) h
-
--- a word has a first byte
-pub first_byte : (line t : List ℕ) (n : ℕ) (s : Span) → Found line n s → t ≡ bytes_at line s → 0 < length t
-first_byte line t n s f e =
-    omega (arith, ap length e, length-take s.len (drop s.start line), length-drop s.start line, f.some, leb-true (s.start + s.len) (length line) f.within)
+pub parent_fault : (s a b c t : Words) (p q r u : Part) (i j k l : Item) (m : Malformed) → Passed s p i a → Passed a q j b → Passed b r k c → Passed c u l t
+    → Faulty (length t.line.now) (parent_parts (words_left t)) (words_left t) m → Faulty (length t.line.now) (parent_parts (drop 4 (words_left s))) (words_left t) m
+parent_fault s a b c t p q r u i j k l m x y z w h =
+    let P : List Word → Type 0 = λ ws. Faulty (length t.line.now) (parent_parts ws) (words_left t) m in
+    let same : drop 4 (words_left s) ≡ words_left t =
+    ap (drop 4) (behind_one s a p i x).1 ∙ ap (drop 3) (behind_one a b q j y).1 ∙ ap (drop 2) (behind_one b c r k z).1 ∙ ap (drop 1) (behind_one c t u l w).1 in
+    subst P (sym same) h
 
 -- a line's fault is that of the command that its first word begins
 pub line_fault : (line t : List ℕ) (s : Span) (m : Malformed) → Found line 0 s → t ≡ bytes_at line s → (get_or t 0 0 ≡ 35 → ⊥) → false ≡ left_open false t

@@ -1,16 +1,21 @@
 -- One word after another.
-use Rattle.std.proofs.Common.{◌≡◌, ℕ, List, ◌∷◌, Some, None, Option, sym, ◌∙◌, inr}
+use Rattle.std.proofs.Common.{◌≡◌, ℕ, suc, List, [], ◌∷◌, length, Some, None, Ok, IsUtf8, Bor, Option, sym, ap, ◌∙◌, inr, arith}
 use Rattle.values.specs.declared.literals.Span.{Span}
 use Rattle.values.specs.declared.literals.Literal.{Literal}
 use Rattle.values.specs.Contents.{bytes_at, datum_of}
+use Rattle.reading.specs.declared.words.Words.{Words}
 use Rattle.reading.specs.Words.{words_from}
+use Rattle.reading.specs.NextWord.{word_at, words_left}
+use Rattle.reading.specs.declared.words.Word.{Word as Placed}
+use Rattle.std.specs.Option.{MatchOption, unwrap_or}
+use Rattle.std.proofs.lemmas.Option.{MatchOption-at_some}
 use Rattle.reading.specs.Placed.{LiteralRead}
 use Rattle.commands.specs.declared.command.Column.{Column}
 use Rattle.commands.specs.declared.command.Presence.{Presence}
 use Rattle.commands.specs.declared.command.Malformed.{Malformed}
 use Rattle.commands.specs.Spelling.{Item, literal, column, word, presence_text, ColumnWord, Spelt}
-use Rattle.commands.specs.Grammar.{Part, a_literal, a_column, a_presence, Faulty}
-use Rattle.commands.specs.Steps.{WordRead, NextItem}
+use Rattle.commands.specs.Grammar.{Part, the, a_literal, a_column, a_presence, Faulty}
+use Rattle.commands.specs.Steps.{WordRead, WordFrom, Passed}
 
 pub literal_argument : (line : List ℕ) (s : Span) (r : Option Literal) → LiteralRead line s r → WordRead a_literal literal line s r
 literal_argument line s None h = h
@@ -22,10 +27,37 @@ column_argument line t s c e h = let g : ColumnWord c (bytes_at line s) = rw e a
 pub presence_argument : (line t : List ℕ) (s : Span) (p : Presence) → t ≡ bytes_at line s → t ≡ presence_text p → WordRead a_presence (λ q. word (presence_text q)) line s (Some p)
 presence_argument line t s p e h = (λ i. sym e ∙ h, λ m. m p (sym e ∙ h))
 
+nil_is_no_cons : (c : ℕ) (cs : List ℕ) → ◌≡◌ {A = List ℕ} [] (c ∷ cs) → ⊥
+nil_is_no_cons c cs e = let l : 0 ≡ suc (length cs) = ap length e in omega arith
+
+-- what a word's text spells
+pub named : (line t : List ℕ) (s : Span) (o : Option (Bor (List ℕ))) (n : Bor (List ℕ)) (w : List ℕ) → t ≡ bytes_at line s → o ≡ Some n → MatchOption o (IsUtf8 t → ⊥) (λ x. x.now ≡ t) → n.now ≡ w
+    → bytes_at line s ≡ w
+named line t s o n w e k h is = sym e ∙ sym (MatchOption-at_some (IsUtf8 t → ⊥) (λ x. x.now ≡ t) n k h) ∙ is
+
+-- the same, where no text stands for what is none
+pub named_or : (line t : List ℕ) (s : Span) (o : Option (Bor (List ℕ))) (d n : Bor (List ℕ)) (c : ℕ) (cs : List ℕ) → t ≡ bytes_at line s → n ≡ unwrap_or o d → d.now ≡ []
+    → MatchOption o (IsUtf8 t → ⊥) (λ x. x.now ≡ t) → n.now ≡ c ∷ cs → bytes_at line s ≡ c ∷ cs
+named_or line t s None d n c cs e k z h is = absurd (nil_is_no_cons c cs (sym z ∙ sym (ap (λ (x : Bor (List ℕ)). x.now) k) ∙ is))
+named_or line t s (Some x) d n c cs e k z h is = sym e ∙ sym h ∙ sym (ap (λ (y : Bor (List ℕ)). y.now) k) ∙ is
+
+pub unnamed_or : (line t : List ℕ) (s : Span) (o : Option (Bor (List ℕ))) (d n : Bor (List ℕ)) (w : List ℕ) → t ≡ bytes_at line s → n ≡ unwrap_or o d → IsUtf8 w
+    → MatchOption o (IsUtf8 t → ⊥) (λ x. x.now ≡ t) → (n.now ≡ w → ⊥) → bytes_at line s ≡ w → ⊥
+unnamed_or line t s None d n w e k u h not is = h (rw (e ∙ is) u)
+unnamed_or line t s (Some x) d n w e k u h not is = not (ap (λ (y : Bor (List ℕ)). y.now) k ∙ h ∙ e ∙ is)
+
+-- a word of the command's own is passed
+pub own_word : (s t : Words) (w : Placed) (k : List ℕ) → WordFrom s t (Ok w) → bytes_at s.line.now w.place ≡ k → Passed s (the k) (word k) t
+own_word s t w k h e = (h.0.1.1.0, (word_at s.line.now w.place, (rw h.0.1.1.1 h.0.0.first, (h.1, (e, λ m. m e)))))
+
 -- a fault behind a word that says its item
-pub later : (e : ℕ) (line : List ℕ) (n next : ℕ) (p : Part) (i : Item) (ps : List Part) (m : Malformed) → NextItem line n p i next → Faulty e ps (words_from line next) m → Faulty e (p ∷ ps) (words_from line n) m
-later e line n next p i ps m h f = rw h.1.0 (rw h.1.1.0 (inr (h.1.1.1.1, f)))
+pub later : (s t : Words) (p : Part) (i : Item) (ps : List Part) (m : Malformed) → Passed s p i t → Faulty (length t.line.now) ps (words_left t) m → Faulty (length s.line.now) (p ∷ ps) (words_left s) m
+later s t p i ps m h f =
+    let g : Faulty (length s.line.now) ps (words_from s.line.now t.at) m = rw h.0 at f in
+    rw h.1.1.0 (rw h.1.1.1.0 (inr (h.1.1.1.1.1, g)))
 
 -- an item more
-pub spelt : (line : List ℕ) (n next : ℕ) (p : Part) (i : Item) (is : List Item) → NextItem line n p i next → Spelt line is (words_from line next) → Spelt line (i ∷ is) (words_from line n)
-spelt line n next p i is h f = rw h.1.0 (h.1.1.0, (h.1.1.1.0, f))
+pub spelt : (s t : Words) (p : Part) (i : Item) (is : List Item) → Passed s p i t → Spelt t.line.now is (words_left t) → Spelt s.line.now (i ∷ is) (words_left s)
+spelt s t p i is h f =
+    let g : Spelt s.line.now is (words_from s.line.now t.at) = rw h.0 at f in
+    rw h.1.1.0 (h.1.1.1.0, (h.1.1.1.1.0, g))

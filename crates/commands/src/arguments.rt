@@ -7,12 +7,12 @@ ghost use Rattle.commands.specs.Steps.{WordRead};
 use crate::command::{Column, Fault, Presence};
 use reading::kinds::read_kind;
 use reading::literals::{read_literal, read_text};
-use reading::numbers::{read_u32, read_usize};
-use reading::words::spells;
+use reading::numbers::Number;
+use reading::words::Word;
 use values::kinds::Kind;
 use values::literals::{Literal, Span};
 
-pub trait Argument: Sized {
+pub trait Argument: Copy {
     ghost part: { Part };
 
     ghost item: { Self → Item };
@@ -22,8 +22,8 @@ pub trait Argument: Sized {
         ensures names_the_sort { result ≡ fault_of part };
 
     // The argument that a word of the line is.
-    fn read(line: &[u8], span: Span) -> Option<Self>
-        ensures reads_the_word { WordRead part item line.now span result };
+    fn read(word: Word) -> Option<Self>
+        ensures reads_the_word { WordRead part item word.entry.line.now word.entry.place result };
 }
 
 impl Argument for Literal {
@@ -35,8 +35,8 @@ impl Argument for Literal {
         Fault::NotALiteral
     }
 
-    fn read(line: &[u8], span: Span) -> Option<Literal> {
-        read_literal(line, span)
+    fn read(word: Word) -> Option<Literal> {
+        read_literal(word)
     }
 }
 
@@ -49,8 +49,8 @@ impl Argument for Kind {
         Fault::NotAKind
     }
 
-    fn read(line: &[u8], span: Span) -> Option<Kind> {
-        read_kind(span.of(line))
+    fn read(word: Word) -> Option<Kind> {
+        read_kind(word.text())
     }
 }
 
@@ -63,8 +63,8 @@ impl Argument for u32 {
         Fault::NotANumber
     }
 
-    fn read(line: &[u8], span: Span) -> Option<u32> {
-        read_u32(span.of(line))
+    fn read(word: Word) -> Option<u32> {
+        Number::read(word.text())
     }
 }
 
@@ -77,8 +77,8 @@ impl Argument for usize {
         Fault::NotANumber
     }
 
-    fn read(line: &[u8], span: Span) -> Option<usize> {
-        read_usize(span.of(line))
+    fn read(word: Word) -> Option<usize> {
+        Number::read(word.text())
     }
 }
 
@@ -92,8 +92,8 @@ impl Argument for Span {
         Fault::NotAName
     }
 
-    fn read(line: &[u8], span: Span) -> Option<Span> {
-        read_text(line, span)
+    fn read(word: Word) -> Option<Span> {
+        read_text(word)
     }
 }
 
@@ -106,17 +106,11 @@ impl Argument for Column {
         Fault::NotAColumn
     }
 
-    fn read(line: &[u8], span: Span) -> Option<Column> {
-        let text = span.of(line);
-        if spells(text, b"struct") {
-            Some(Column::Struct)
-        } else if spells(text, b"list") {
-            Some(Column::List)
-        } else {
-            match read_kind(text) {
-                Some(kind) => Some(Column::Primitive(kind)),
-                None => None,
-            }
+    fn read(word: Word) -> Option<Column> {
+        match word.text() {
+            b"struct" => Some(Column::Struct),
+            b"list" => Some(Column::List),
+            text => read_kind(text).map(Column::Primitive),
         }
     }
 }
@@ -130,14 +124,11 @@ impl Argument for Presence {
         Fault::NotAPresence
     }
 
-    fn read(line: &[u8], span: Span) -> Option<Presence> {
-        let text = span.of(line);
-        if spells(text, b"required") {
-            Some(Presence::Required)
-        } else if spells(text, b"optional") {
-            Some(Presence::Optional)
-        } else {
-            None
+    fn read(word: Word) -> Option<Presence> {
+        match word.text() {
+            b"required" => Some(Presence::Required),
+            b"optional" => Some(Presence::Optional),
+            _ => None,
         }
     }
 }

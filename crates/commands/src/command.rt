@@ -1,4 +1,5 @@
 // What a line of the console asks for, and why it asks for nothing.
+use reading::words::Word;
 use values::kinds::Kind;
 use values::literals::{Literal, Span};
 
@@ -74,4 +75,20 @@ pub enum Fault {
     NotAName,
     NotAColumn,
     NotAPresence,
+}
+
+impl Fault {
+    ghost use Rattle.std.specs.Prelude.{◌≡◌};
+    ghost use Rattle.reading.specs.NextWord.{word_at};
+    ghost use Rattle.commands.specs.Grammar.{at_word};
+
+    // That fault at that word.
+    pub(crate) fn at(self, word: Word) -> Malformed
+        ensures begins_where_the_word_does { result ≡ at_word self (word_at word.entry.line.now word.entry.place) }
+    {
+        Malformed {
+            what: self,
+            at: word.place.start,
+        }
+    }
 }

@@ -1,61 +1,45 @@
 // A line as a command.
-ghost use Rattle.std.specs.Prelude.{◌≡◌, false, cond, codes};
-ghost use Rattle.reading.specs.Words.{words_from};
-ghost use Rattle.commands.specs.Spelling.{parent_items};
-ghost use Rattle.commands.specs.Grammar.{parent_parts, open_quote, Read, SpellsNone};
+ghost use Rattle.std.specs.Prelude.{◌≡◌, false, codes, ◌==◌, slice_index};
+ghost use Rattle.reading.specs.NextWord.{word_at, words_left};
+ghost use Rattle.commands.specs.Spelling.{parent_items, cell_items};
+ghost use Rattle.commands.specs.Grammar.{parent_parts, cell_parts, open_quote, Read, SpellsNone};
 ghost use Rattle.commands.specs.Steps.{Done, CommandRead, Follows};
 
 use crate::command::{CellWord, Column, Command, Fault, Malformed, Presence};
-use crate::reader::{end, last, pass, take, two, word};
-use reading::words::{is_left_open, next_word, spells};
+use crate::reader::Reader;
+use reading::words::{Word, Words, as_str};
 use values::kinds::Kind;
 use values::literals::{Literal, Span};
 
-fn equal(line: &[u8], from: usize) -> Result<Command, Malformed>
-    ensures takes_two_literals { Follows (codes "equal") line.now from result }
+fn convert(mut reader: Reader) -> Result<Command, Malformed>
+    ensures takes_literal_and_kind { Follows (codes "convert") reader.entry.words result }
 {
-    let (a, b) = two::<Literal, Literal>(line, from)?;
-    Ok(Command::Equal(a, b))
-}
-
-fn compare(line: &[u8], from: usize) -> Result<Command, Malformed>
-    ensures takes_two_literals { Follows (codes "compare") line.now from result }
-{
-    let (a, b) = two::<Literal, Literal>(line, from)?;
-    Ok(Command::Compare(a, b))
-}
-
-fn convert(line: &[u8], from: usize) -> Result<Command, Malformed>
-    ensures takes_literal_and_kind { Follows (codes "convert") line.now from result }
-{
-    let (a, behind) = take::<Literal>(line, from)?;
-    let next = pass(line, behind, b"to")?;
-    let kind = last::<Kind>(line, next)?;
-    Ok(Command::Convert(a, kind))
+    let literal = reader.take::<Literal>()?;
+    reader.pass(b"to")?;
+    let kind = reader.last::<Kind>()?;
+    Ok(Command::Convert(literal, kind))
 }
 
 // The parent's place, if it is named.
-fn parent(line: &[u8], from: usize) -> Result<Option<usize>, Malformed>
-    ensures is_all_or_nothing { Done (parent_parts (words_from line.now from)) parent_items line.now from result }
+fn parent(mut reader: Reader) -> Result<Option<usize>, Malformed>
+    ensures is_all_or_nothing { Done (parent_parts (words_left reader.entry.words)) parent_items reader.entry.words result }
 {
-    match next_word(line, from) {
-        Some(_) => {
-            let next = pass(line, from, b"in")?;
-            let place = last::<usize>(line, next)?;
-            Ok(Some(place))
-        }
-        None => Ok(None),
+    if reader.is_done() {
+        return Ok(None);
     }
+    reader.pass(b"in")?;
+    let place = reader.last::<usize>()?;
+    Ok(Some(place))
 }
 
-fn field(line: &[u8], from: usize) -> Result<Command, Malformed>
-    ensures takes_four_and_the_parent { Follows (codes "field") line.now from result }
+fn field(mut reader: Reader) -> Result<Command, Malformed>
+    ensures takes_four_and_the_parent { Follows (codes "field") reader.entry.words result }
 {
-    let (number, at_name) = take::<u32>(line, from)?;
-    let (name, at_column) = take::<Span>(line, at_name)?;
-    let (column, at_presence) = take::<Column>(line, at_column)?;
-    let (presence, at_parent) = take::<Presence>(line, at_presence)?;
-    let parent = parent(line, at_parent)?;
+    let number = reader.take::<u32>()?;
+    let name = reader.take::<Span>()?;
+    let column = reader.take::<Column>()?;
+    let presence = reader.take::<Presence>()?;
+    let parent = parent(reader)?;
     Ok(Command::Field {
         number,
         name,
@@ -65,85 +49,56 @@ fn field(line: &[u8], from: usize) -> Result<Command, Malformed>
     })
 }
 
-fn schema(line: &[u8], from: usize) -> Result<Command, Malformed>
-    ensures takes_nothing { Follows (codes "schema") line.now from result }
+fn cell(reader: Reader) -> Result<CellWord, Malformed>
+    ensures goes_by_the_next_word { Done (cell_parts (words_left reader.entry.words)) cell_items reader.entry.words result }
 {
-    end(line, from)?;
-    Ok(Command::Schema)
-}
-
-fn find(line: &[u8], from: usize, any_case: bool) -> Result<Command, Malformed>
-    ensures takes_a_name { Follows (cond any_case (codes "find-any-case") (codes "find")) line.now from result }
-{
-    let name = last::<Span>(line, from)?;
-    Ok(Command::Find { name, any_case })
-}
-
-fn row(line: &[u8], from: usize) -> Result<Command, Malformed>
-    ensures takes_a_number { Follows (codes "row") line.now from result }
-{
-    let top = last::<usize>(line, from)?;
-    Ok(Command::Row { top })
-}
-
-fn cell(line: &[u8], from: usize) -> Result<Command, Malformed>
-    ensures goes_by_the_next_word { Follows (codes "cell") line.now from result }
-{
-    let span = word(line, from)?;
-    let text = span.of(line);
-    let next = span.start + span.len;
-    if spells(text, b"null") {
-        end(line, next)?;
-        Ok(Command::Cell(CellWord::Null))
-    } else if spells(text, b"group") {
-        let (start, count) = two::<usize, usize>(line, next)?;
-        Ok(Command::Cell(CellWord::Group { start, count }))
-    } else if spells(text, b"list") {
-        end(line, next)?;
-        Ok(Command::Cell(CellWord::List))
-    } else {
-        let literal = last::<Literal>(line, from)?;
-        Ok(Command::Cell(CellWord::Value(literal)))
+    let mut behind = reader;
+    let word = behind.word()?;
+    match as_str(word.text()).unwrap_or("") {
+        "null" => behind.end().map(|()| CellWord::Null),
+        "group" => {
+            let (start, count) = behind.two::<usize, usize>()?;
+            Ok(CellWord::Group { start, count })
+        }
+        "list" => behind.end().map(|()| CellWord::List),
+        _ => reader.last::<Literal>().map(CellWord::Value),
     }
 }
 
-fn get(line: &[u8], from: usize) -> Result<Command, Malformed>
-    ensures takes_a_name { Follows (codes "get") line.now from result }
+// The command that begins with the first word, and goes on with the others.
+fn command(first: Word, others: Reader) -> Result<Command, Malformed>
+    ensures goes_by_the_first_word { open_quote (word_at first.entry.line.now first.entry.place) ≡ false → CommandRead others.entry.words.line.now (word_at first.entry.line.now first.entry.place) (words_left others.entry.words) result }
 {
-    let name = last::<Span>(line, from)?;
-    Ok(Command::Get { name })
+    let unknown = Fault::UnknownCommand.at(first);
+    match as_str(first.text()).ok_or(unknown)? {
+        "equal" => others
+            .two::<Literal, Literal>()
+            .map(|(a, b)| Command::Equal(a, b)),
+        "compare" => others
+            .two::<Literal, Literal>()
+            .map(|(a, b)| Command::Compare(a, b)),
+        "convert" => convert(others),
+        "field" => field(others),
+        "schema" => others.end().map(|()| Command::Schema),
+        "find" => others.last::<Span>().map(|name| Command::Find {
+            name,
+            any_case: false,
+        }),
+        "find-any-case" => others.last::<Span>().map(|name| Command::Find {
+            name,
+            any_case: true,
+        }),
+        "row" => others.last::<usize>().map(|top| Command::Row { top }),
+        "cell" => cell(others).map(Command::Cell),
+        "get" => others.last::<Span>().map(|name| Command::Get { name }),
+        _ => Err(unknown),
+    }
 }
 
-// The command that begins with the first word, at `at`, and goes on at `next`.
-fn command(line: &[u8], first: &[u8], at: usize, next: usize) -> Result<Command, Malformed>
-    ensures goes_by_the_first_word { open_quote (record { place = at; text = first.now }) ≡ false → CommandRead line.now (record { place = at; text = first.now }) (words_from line.now next) result }
+fn begins_a_comment(text: &[u8]) -> bool
+    ensures asks_the_first_byte { result ≡ (slice_index text.now 0 == 35) }
 {
-    if spells(first, b"equal") {
-        equal(line, next)
-    } else if spells(first, b"compare") {
-        compare(line, next)
-    } else if spells(first, b"convert") {
-        convert(line, next)
-    } else if spells(first, b"field") {
-        field(line, next)
-    } else if spells(first, b"schema") {
-        schema(line, next)
-    } else if spells(first, b"find") {
-        find(line, next, false)
-    } else if spells(first, b"find-any-case") {
-        find(line, next, true)
-    } else if spells(first, b"row") {
-        row(line, next)
-    } else if spells(first, b"cell") {
-        cell(line, next)
-    } else if spells(first, b"get") {
-        get(line, next)
-    } else {
-        Err(Malformed {
-            what: Fault::UnknownCommand,
-            at,
-        })
-    }
+    matches!(text, [b'#', ..])
 }
 
 // The command that a line is; none where it is blank or a comment.
@@ -151,18 +106,15 @@ pub fn parse(line: &[u8]) -> Result<Option<Command>, Malformed>
     ensures goes_by_the_words { Read line.now result }
     ensures refuses_no_command { SpellsNone line.now result }
 {
-    match next_word(line, 0) {
+    let mut words = Words::of(line);
+    match words.next() {
         Some(first) => {
-            let text = first.of(line);
-            if text[0] == b'#' {
+            if begins_a_comment(first.text()) {
                 Ok(None)
-            } else if is_left_open(text) {
-                Err(Malformed {
-                    what: Fault::OpenQuote,
-                    at: first.start,
-                })
+            } else if first.is_left_open() {
+                Err(Fault::OpenQuote.at(first))
             } else {
-                let command = command(line, text, first.start, first.start + first.len)?;
+                let command = command(first, Reader { words })?;
                 Ok(Some(command))
             }
         }

@@ -1,51 +1,31 @@
-use Rattle.std.proofs.Common.{length, codes, refl}
-use Rattle.reading.specs.Words.{words_from}
-use Rattle.commands.proofs.Forms.{dispatched, unknown}
+use Rattle.std.proofs.Common.{length, codes}
+use Rattle.std.proofs.lemmas.Option.{MatchOption-at_none}
+use Rattle.std.proofs.lemmas.Result.{err_from_is_err_and}
+use Rattle.values.specs.Contents.{bytes_at}
+use Rattle.reading.specs.NextWord.{word_at, words_left}
+use Rattle.commands.proofs.Words.{named}
+use Rattle.commands.proofs.Forms.{dispatched, no_name, unknown}
 use Rattle.commands.proofs.lines.command.Goals as goal
 
-pub returns-then-spells : goal.returns-then-spells
-returns-then-spells c = record { goes_by_the_first_word = λ o. dispatched c.args.line.now c.args.first.now (codes "equal") c.args.at c.args.next c.equal.result (c.if-spells.ensures.tells_equal_bytes.0 refl) c.equal.ensures.takes_two_literals }
-
-pub returns-then-spells-2 : goal.returns-then-spells-2
-returns-then-spells-2 c = record { goes_by_the_first_word = λ o. dispatched c.args.line.now c.args.first.now (codes "compare") c.args.at c.args.next c.compare.result (c.if-spells-2.ensures.tells_equal_bytes.0 refl) c.compare.ensures.takes_two_literals }
-
-pub returns-then-spells-3 : goal.returns-then-spells-3
-returns-then-spells-3 c = record { goes_by_the_first_word = λ o. dispatched c.args.line.now c.args.first.now (codes "convert") c.args.at c.args.next c.convert.result (c.if-spells-3.ensures.tells_equal_bytes.0 refl) c.convert.ensures.takes_literal_and_kind }
-
-pub returns-then-spells-4 : goal.returns-then-spells-4
-returns-then-spells-4 c = record { goes_by_the_first_word = λ o. dispatched c.args.line.now c.args.first.now (codes "field") c.args.at c.args.next c.field.result (c.if-spells-4.ensures.tells_equal_bytes.0 refl) c.field.ensures.takes_four_and_the_parent }
-
-pub returns-then-spells-5 : goal.returns-then-spells-5
-returns-then-spells-5 c = record { goes_by_the_first_word = λ o. dispatched c.args.line.now c.args.first.now (codes "schema") c.args.at c.args.next c.schema.result (c.if-spells-5.ensures.tells_equal_bytes.0 refl) c.schema.ensures.takes_nothing }
-
-pub returns-then-spells-6 : goal.returns-then-spells-6
-returns-then-spells-6 c = record { goes_by_the_first_word = λ o. dispatched c.args.line.now c.args.first.now (codes "find") c.args.at c.args.next c.find.result (c.if-spells-6.ensures.tells_equal_bytes.0 refl) c.find.ensures.takes_a_name }
-
-pub returns-then-spells-7 : goal.returns-then-spells-7
-returns-then-spells-7 c = record { goes_by_the_first_word = λ o. dispatched c.args.line.now c.args.first.now (codes "find-any-case") c.args.at c.args.next c.find-then-spells-7.result (c.if-spells-7.ensures.tells_equal_bytes.0 refl) c.find-then-spells-7.ensures.takes_a_name }
-
-pub returns-then-spells-8 : goal.returns-then-spells-8
-returns-then-spells-8 c = record { goes_by_the_first_word = λ o. dispatched c.args.line.now c.args.first.now (codes "row") c.args.at c.args.next c.row.result (c.if-spells-8.ensures.tells_equal_bytes.0 refl) c.row.ensures.takes_a_number }
-
-pub returns-then-spells-9 : goal.returns-then-spells-9
-returns-then-spells-9 c = record { goes_by_the_first_word = λ o. dispatched c.args.line.now c.args.first.now (codes "cell") c.args.at c.args.next c.cell.result (c.if-spells-9.ensures.tells_equal_bytes.0 refl) c.cell.ensures.goes_by_the_next_word }
-
-pub returns-then-spells-10 : goal.returns-then-spells-10
-returns-then-spells-10 c = record { goes_by_the_first_word = λ o. dispatched c.args.line.now c.args.first.now (codes "get") c.args.at c.args.next c.get.result (c.if-spells-10.ensures.tells_equal_bytes.0 refl) c.get.ensures.takes_a_name }
-
-pub returns-else-spells-10 : goal.returns-else-spells-10
-returns-else-spells-10 c =
+pub returns-in_err-ok_or : goal.returns-in_err-ok_or
+returns-in_err-ok_or c =
+    let p = err_from_is_err_and c.from_residual.result c.from_residual.ensures.1 in
+    let q = no_name c.as_str.result c.at-unknown.result c.in_err-ok_or.field-0.0 c.in_err-ok_or.ensures.value in
+    let n = MatchOption-at_none _ _ q.0 c.as_str.ensures.is_text_of_those_bytes in
     record {
       goes_by_the_first_word = λ o.
-          unknown (length c.args.line.now) (record { place = c.args.at; text = c.args.first.now }) (words_from c.args.line.now c.args.next)
-          c.if-spells.ensures.tells_equal_bytes
-          c.if-spells-2.ensures.tells_equal_bytes
-          c.if-spells-3.ensures.tells_equal_bytes
-          c.if-spells-4.ensures.tells_equal_bytes
-          c.if-spells-5.ensures.tells_equal_bytes
-          c.if-spells-6.ensures.tells_equal_bytes
-          c.if-spells-7.ensures.tells_equal_bytes
-          c.if-spells-8.ensures.tells_equal_bytes
-          c.if-spells-9.ensures.tells_equal_bytes
-          c.if-spells-10.ensures.tells_equal_bytes;
+          rw (p.1, p.2, q.1, c.at-unknown.ensures.begins_where_the_word_does)
+          (unknown (length c.args.others.words.line.now) (word_at c.args.first.line.now c.args.first.place) (words_left c.args.others.words) (rw c.text.ensures.are_the_bytes_there at n));
     }
+
+pub returns-in-convert : goal.returns-in-convert
+returns-in-convert c =
+    let name = named c.args.first.line.now c.text.result.now c.args.first.place c.as_str.result c.in_ok-ok_or.field-0 (codes "convert")
+    c.text.ensures.are_the_bytes_there c.in_ok-ok_or.ensures.ok_part c.as_str.ensures.is_text_of_those_bytes c.in-convert.is in
+    record { goes_by_the_first_word = λ o. dispatched c.args.others.words (bytes_at c.args.first.line.now c.args.first.place) (codes "convert") c.args.first.place.start c.convert.result name c.convert.ensures.takes_literal_and_kind }
+
+pub returns-in-field : goal.returns-in-field
+returns-in-field c =
+    let name = named c.args.first.line.now c.text.result.now c.args.first.place c.as_str.result c.in_ok-ok_or.field-0 (codes "field")
+    c.text.ensures.are_the_bytes_there c.in_ok-ok_or.ensures.ok_part c.as_str.ensures.is_text_of_those_bytes c.in-field.is in
+    record { goes_by_the_first_word = λ o. dispatched c.args.others.words (bytes_at c.args.first.line.now c.args.first.place) (codes "field") c.args.first.place.start c.field.result name c.field.ensures.takes_four_and_the_parent }

@@ -1,13 +1,15 @@
-use Rattle.std.proofs.Common.{refl}
+use Rattle.std.proofs.Common.{codes, arith, rules}
+use Rattle.std.proofs.lemmas.Slice.Eq.{text_from_reads}
 use Rattle.commands.specs.declared.command.Column.TheVariants as T
 use Rattle.commands.proofs.Words.{column_argument}
 use Rattle.commands.proofs.arguments.ColumnArgument.read.Goals as goal
 
-pub returns-then-spells : goal.returns-then-spells
-returns-then-spells c = record { reads_the_word = column_argument _ _ _ T.Struct c.of-text.ensures.are_the_bytes_there (c.if-spells.ensures.tells_equal_bytes.0 refl) }
+pub returns-in-struct : goal.returns-in-struct
+returns-in-struct c =
+    let same = text_from_reads c.text.result.now (codes "struct") (omega arith) (search rules) in
+    record { reads_the_word = column_argument _ _ _ T.Struct c.text.ensures.are_the_bytes_there same }
 
-pub returns-then-spells-2 : goal.returns-then-spells-2
-returns-then-spells-2 c = record { reads_the_word = column_argument _ _ _ T.List c.of-text.ensures.are_the_bytes_there (c.if-spells-2.ensures.tells_equal_bytes.0 refl) }
-
-pub returns-in-Some : goal.returns-in-Some
-returns-in-Some c = record { reads_the_word = column_argument _ _ _ (T.Primitive c.in-Some.kind) c.of-text.ensures.are_the_bytes_there c.in-Some.ensures.reads_the_name }
+pub returns-in-list : goal.returns-in-list
+returns-in-list c =
+    let same = text_from_reads c.text.result.now (codes "list") (omega arith) (search rules) in
+    record { reads_the_word = column_argument _ _ _ T.List c.text.ensures.are_the_bytes_there same }
