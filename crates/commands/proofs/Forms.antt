@@ -1,5 +1,5 @@
 -- Commands by their words.
-use Rattle.std.proofs.Common.{◌≡◌, ℕ, ◌+◌, false, List, [], ◌∷◌, length, get_or, drop, Some, None, Ok, Err, Option, codes, Decides, ltb, true, IsAscii, IsUtf8, Result, sym, refl, ap, ◌∙◌, subst, inl, inr, arith}
+use Rattle.std.proofs.Common.{◌≡◌, ℕ, ◌+◌, false, List, [], ◌∷◌, length, get_or, drop, Ok, Err, codes, Decides, ltb, true, IsAscii, IsUtf8, Result, sym, refl, ap, ◌∙◌, subst, inl, inr}
 use Rattle.std.specs.Str.{bytes_eq}
 use Rattle.std.proofs.lemmas.Slice.Eq.{bytes_eq-Decides}
 use Rattle.std.specs.List.{list_all}
@@ -15,7 +15,6 @@ use Rattle.commands.specs.declared.command.Command.{Command}
 use Rattle.commands.specs.declared.command.Malformed.{Malformed}
 use Rattle.commands.specs.declared.command.Fault.TheVariants as F
 use Rattle.std.specs.Result.{MatchResult}
-use Rattle.std.specs.Option.{ok_or}
 use Rattle.values.specs.declared.literals.Literal.{Literal}
 use Rattle.commands.specs.declared.command.CellWord.{CellWord}
 use Rattle.commands.specs.declared.command.CellWord.TheVariants as W
@@ -38,24 +37,24 @@ ascii (c ∷ cs) h = let p = and_parts (ltb c 128) (list_all (λ d. ltb d 128) c
 pub utf8 : (w : List ℕ) → list_all (λ c. ltb c 128) w ≡ true → IsUtf8 w
 utf8 w a = IsUtf8-from_ascii w (ascii w a)
 
-no_text : (t w : List ℕ) → (IsUtf8 t → ⊥) → list_all (λ c. ltb c 128) w ≡ true → bytes_eq t w ≡ false
-no_text t w n a = unlike t w (λ e. n (rw e (utf8 w a)))
-
--- what is no text begins no command
-pub unknown : (e : ℕ) (w : Word) (ws : List Word) → (IsUtf8 w.text → ⊥) → FaultyBehind e w ws (wanted w.text ws) (at_word F.UnknownCommand w)
-unknown e w ws n =
-    let t = w.text in
+-- a word that begins no command
+pub unknown : (e : ℕ) (w : Word) (ws : List Word)
+    → (w.text ≡ codes "equal" → ⊥) → (w.text ≡ codes "compare" → ⊥) → (w.text ≡ codes "convert" → ⊥) → (w.text ≡ codes "field" → ⊥)
+    → (w.text ≡ codes "schema" → ⊥) → (w.text ≡ codes "find" → ⊥) → (w.text ≡ codes "find-any-case" → ⊥) → (w.text ≡ codes "row" → ⊥)
+    → (w.text ≡ codes "cell" → ⊥) → (w.text ≡ codes "get" → ⊥)
+    → FaultyBehind e w ws (wanted w.text ws) (at_word F.UnknownCommand w)
+unknown e w ws a b c d f g h i j k =
     rw (
-      no_text t (codes "equal") n refl,
-      no_text t (codes "compare") n refl,
-      no_text t (codes "convert") n refl,
-      no_text t (codes "field") n refl,
-      no_text t (codes "schema") n refl,
-      no_text t (codes "find") n refl,
-      no_text t (codes "find-any-case") n refl,
-      no_text t (codes "row") n refl,
-      no_text t (codes "cell") n refl,
-      no_text t (codes "get") n refl,
+      unlike w.text (codes "equal") a,
+      unlike w.text (codes "compare") b,
+      unlike w.text (codes "convert") c,
+      unlike w.text (codes "field") d,
+      unlike w.text (codes "schema") f,
+      unlike w.text (codes "find") g,
+      unlike w.text (codes "find-any-case") h,
+      unlike w.text (codes "row") i,
+      unlike w.text (codes "cell") j,
+      unlike w.text (codes "get") k,
     ) refl
 
 -- a cell's first word is missing or open
@@ -78,11 +77,6 @@ cell_value s w ws (Ok x) m e a b c h g = rw g h
 cell_value s w ws (Err f) m e a b c h g =
     let P : List Part → Type 0 = λ ps. Faulty (length s.line.now) ps (words_left s) f in
     rw g (subst P (sym (ap cell_parts e ∙ cell-literal w ws a b c)) h)
-
--- where no name is found, the fault is the one given
-pub no_name : {X : Type 0} (o : Option X) (e m : Malformed) → ◌≡◌ {A = Result X Malformed} (Err m) (ok_or o e) → (o ≡ None) × (m ≡ e)
-no_name None e m h = (refl, grind arith)
-no_name (Some x) e m h = absurd (grind arith)
 
 -- behind four words a parent is named, if there is a word
 pub parent_begins : (ws : List Word) → Decides false (ws ≡ []) → parent_parts ws ≡ the (codes "in") ∷ a_number 64 ∷ []

@@ -8,7 +8,6 @@ use Rattle.reading.specs.Words.{words_from}
 use Rattle.reading.specs.NextWord.{word_at, words_left}
 use Rattle.reading.specs.declared.words.Word.{Word as Placed}
 use Rattle.std.specs.Option.{MatchOption, unwrap_or}
-use Rattle.std.proofs.lemmas.Option.{MatchOption-at_some}
 use Rattle.reading.specs.Placed.{LiteralRead}
 use Rattle.commands.specs.declared.command.Column.{Column}
 use Rattle.commands.specs.declared.command.Presence.{Presence}
@@ -30,12 +29,7 @@ presence_argument line t s p e h = (λ i. sym e ∙ h, λ m. m p (sym e ∙ h))
 nil_is_no_cons : (c : ℕ) (cs : List ℕ) → ◌≡◌ {A = List ℕ} [] (c ∷ cs) → ⊥
 nil_is_no_cons c cs e = let l : 0 ≡ suc (length cs) = ap length e in omega arith
 
--- what a word's text spells
-pub named : (line t : List ℕ) (s : Span) (o : Option (Bor (List ℕ))) (n : Bor (List ℕ)) (w : List ℕ) → t ≡ bytes_at line s → o ≡ Some n → MatchOption o (IsUtf8 t → ⊥) (λ x. x.now ≡ t) → n.now ≡ w
-    → bytes_at line s ≡ w
-named line t s o n w e k h is = sym e ∙ sym (MatchOption-at_some (IsUtf8 t → ⊥) (λ x. x.now ≡ t) n k h) ∙ is
-
--- the same, where no text stands for what is none
+-- what a word spells, if its text is read, and nothing else stands for what is no text
 pub named_or : (line t : List ℕ) (s : Span) (o : Option (Bor (List ℕ))) (d n : Bor (List ℕ)) (c : ℕ) (cs : List ℕ) → t ≡ bytes_at line s → n ≡ unwrap_or o d → d.now ≡ []
     → MatchOption o (IsUtf8 t → ⊥) (λ x. x.now ≡ t) → n.now ≡ c ∷ cs → bytes_at line s ≡ c ∷ cs
 named_or line t s None d n c cs e k z h is = absurd (nil_is_no_cons c cs (sym z ∙ sym (ap (λ (x : Bor (List ℕ)). x.now) k) ∙ is))

@@ -69,8 +69,7 @@ fn cell(reader: Reader) -> Result<CellWord, Malformed>
 fn command(first: Word, others: Reader) -> Result<Command, Malformed>
     ensures goes_by_the_first_word { open_quote (word_at first.entry.line.now first.entry.place) ≡ false → CommandRead others.entry.words.line.now (word_at first.entry.line.now first.entry.place) (words_left others.entry.words) result }
 {
-    let unknown = Fault::UnknownCommand.at(first);
-    match as_str(first.text()).ok_or(unknown)? {
+    match as_str(first.text()).unwrap_or("") {
         "equal" => others
             .two::<Literal, Literal>()
             .map(|(a, b)| Command::Equal(a, b)),
@@ -91,7 +90,7 @@ fn command(first: Word, others: Reader) -> Result<Command, Malformed>
         "row" => others.last::<usize>().map(|top| Command::Row { top }),
         "cell" => cell(others).map(Command::Cell),
         "get" => others.last::<Span>().map(|name| Command::Get { name }),
-        _ => Err(unknown),
+        _ => Err(Fault::UnknownCommand.at(first)),
     }
 }
 
