@@ -1,16 +1,11 @@
 -- Commands by their words.
-use Rattle.std.proofs.Common.{◌≡◌, ℕ, ◌+◌, false, List, [], ◌∷◌, length, get_or, drop, Ok, Err, codes, Decides, ltb, true, IsAscii, IsUtf8, Result, sym, refl, ap, ◌∙◌, subst, inl, inr}
+use Rattle.std.proofs.Common.{◌≡◌, ℕ, false, List, [], ◌∷◌, length, drop, Ok, Err, codes, Decides, Result, sym, refl, ap, ◌∙◌, subst, inl, inr}
 use Rattle.std.specs.Str.{bytes_eq}
 use Rattle.std.proofs.lemmas.Slice.Eq.{bytes_eq-Decides}
-use Rattle.std.specs.List.{list_all}
-use Rattle.std.proofs.lemmas.Bool.{cases_Bool, false≢true, cond_both, and_parts, ltb-true, ne_eqb}
-use Rattle.std.proofs.lemmas.Str.{IsUtf8-from_ascii}
-use Rattle.std.proofs.lemmas.Str.Ascii.{IsAscii-nil, IsAscii-cons}
-use Rattle.values.specs.declared.literals.Span.{Span}
-use Rattle.values.specs.Contents.{bytes_at}
-use Rattle.reading.specs.Words.{Word, left_open, words_from, words}
+use Rattle.std.proofs.lemmas.Bool.{cases_Bool, false≢true, cond_both}
+use Rattle.reading.specs.Words.{Word}
 use Rattle.reading.specs.declared.words.Words.{Words}
-use Rattle.reading.specs.NextWord.{words_left, Found}
+use Rattle.reading.specs.NextWord.{words_left}
 use Rattle.commands.specs.declared.command.Command.{Command}
 use Rattle.commands.specs.declared.command.Malformed.{Malformed}
 use Rattle.commands.specs.declared.command.Fault.TheVariants as F
@@ -19,7 +14,7 @@ use Rattle.values.specs.declared.literals.Literal.{Literal}
 use Rattle.commands.specs.declared.command.CellWord.{CellWord}
 use Rattle.commands.specs.declared.command.CellWord.TheVariants as W
 use Rattle.commands.specs.Spelling.{Item, literal, cell_items}
-use Rattle.commands.specs.Grammar.{Part, a_literal, a_number, the, cell_parts, parent_parts, wanted, Faulty, FaultyBehind, FaultyLine, passed_over, at_word}
+use Rattle.commands.specs.Grammar.{Part, a_literal, a_number, the, cell_parts, parent_parts, wanted, Faulty, FaultyBehind, at_word}
 use Rattle.commands.specs.Steps.{Passed, Done, CommandRead, Follows}
 
 -- the word is its place and its text
@@ -29,13 +24,6 @@ dispatched s t k place r e h = rw e (h place)
 -- not that word
 unlike : (t w : List ℕ) → (t ≡ w → ⊥) → bytes_eq t w ≡ false
 unlike t w h = elim (cases_Bool (bytes_eq t w)) [ inl e ↦ absurd (h ((bytes_eq-Decides t w).0 e)) | inr e ↦ e ]
-
-ascii : (bs : List ℕ) → list_all (λ c. ltb c 128) bs ≡ true → IsAscii bs
-ascii [] h = IsAscii-nil
-ascii (c ∷ cs) h = let p = and_parts (ltb c 128) (list_all (λ d. ltb d 128) cs) h in IsAscii-cons c cs (ltb-true c 128 p.0) (ascii cs p.1)
-
-pub utf8 : (w : List ℕ) → list_all (λ c. ltb c 128) w ≡ true → IsUtf8 w
-utf8 w a = IsUtf8-from_ascii w (ascii w a)
 
 -- a word that begins no command
 pub unknown : (e : ℕ) (w : Word) (ws : List Word)
@@ -95,14 +83,3 @@ parent_fault s a b c t p q r u i j k l m x y z w h =
     let same : drop 4 (words_left s) ≡ words_left t =
     ap (drop 4) (behind_one s a p i x).1 ∙ ap (drop 3) (behind_one a b q j y).1 ∙ ap (drop 2) (behind_one b c r k z).1 ∙ ap (drop 1) (behind_one c t u l w).1 in
     subst P (sym same) h
-
--- a line's fault is that of the command that its first word begins
-pub line_fault : (line t : List ℕ) (s : Span) (m : Malformed) → Found line 0 s → t ≡ bytes_at line s → (get_or t 0 0 ≡ 35 → ⊥) → false ≡ left_open false t
-    → (left_open false t ≡ false → CommandRead line (record { place = s.start; text = t }) (words_from line (s.start + s.len)) (Err m))
-    → (passed_over (words line) ≡ false) × FaultyLine (length line) (words line) m
-line_fault line t s m f e n o h =
-    let P : List Word → Type 0 = λ ws. (passed_over ws ≡ false) × FaultyLine (length line) ws m in
-    let rest = words_from line (s.start + s.len) in
-    let Q : List ℕ → Type 0 = λ x. FaultyBehind (length line) (record { place = s.start; text = x }) rest (wanted x rest) m in
-    let closed : left_open false (bytes_at line s) ≡ false = ap (left_open false) (sym e) ∙ sym o in
-    subst P (sym f.first) (ne_eqb (get_or (bytes_at line s) 0 0) 35 (rw e at n), rw closed (subst Q e (h (sym o))))

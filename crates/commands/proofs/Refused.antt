@@ -1,5 +1,5 @@
 -- What is refused is no command.
-use Rattle.std.proofs.Common.{◌≡◌, ℕ, Bool, true, false, ◌||◌, eqb, List, [], ◌∷◌, ◌++◌, drop, Some, None, codes, Option, sym, refl, ap, ◌∙◌, subst, inl, inr}
+use Rattle.std.proofs.Common.{◌≡◌, ℕ, Bool, true, false, ◌||◌, eqb, List, [], ◌∷◌, ◌++◌, drop, length, Some, None, Ok, Err, codes, Option, Result, sym, refl, ap, ◌∙◌, subst, inl, inr}
 use Rattle.std.specs.Str.{bytes_eq}
 use Rattle.std.proofs.lemmas.Slice.Eq.{bytes_eq-Decides}
 use Rattle.std.proofs.lemmas.Bool.{cases_Bool, false≢true, or_right}
@@ -8,7 +8,7 @@ use Rattle.values.specs.declared.kinds.Kind.{Kind}
 use Rattle.values.specs.declared.literals.Span.{Span}
 use Rattle.values.specs.declared.literals.Literal.{Literal}
 use Rattle.values.specs.Contents.{bytes_at, datum_of}
-use Rattle.reading.specs.Words.{Word}
+use Rattle.reading.specs.Words.{Word, words}
 use Rattle.commands.specs.declared.command.Command.{Command}
 use Rattle.commands.specs.declared.command.Command.TheVariants as C
 use Rattle.commands.specs.declared.command.Column.{Column}
@@ -18,7 +18,7 @@ use Rattle.commands.specs.declared.command.CellWord.TheVariants as W
 use Rattle.commands.specs.declared.command.Malformed.{Malformed}
 use Rattle.commands.specs.declared.command.Fault.TheVariants as F
 use Rattle.commands.specs.Spelling.{Item, word, literal, kind, number, name, column, presence_text, parent_items, cell_items, spelling, Says, Spelt}
-use Rattle.commands.specs.Grammar.{Part, the, a_literal, a_kind, a_number, a_name, a_column, a_presence, Misses, parent_parts, cell_parts, wanted, Faulty, FaultyBehind, FaultyLine, at_word}
+use Rattle.commands.specs.Grammar.{Part, the, a_literal, a_kind, a_number, a_name, a_column, a_presence, Misses, parent_parts, cell_parts, wanted, Faulty, FaultyBehind, FaultyLine, at_word, Read, SpellsNone}
 
 -- an item of the sort that the part wants
 Sort : Part → Item → Type 0
@@ -122,7 +122,7 @@ cell_sorts line (W.Value l) (w ∷ ws) s =
     let h : has_colon w.text ≡ true = ap has_colon s.1.0.0.2.0 ∙ colon_in s.1.0.0.0 s.1.0.0.1 in
     rw (other w.text (codes "null") h refl, other w.text (codes "group") h refl, other w.text (codes "list") h refl) (is_literal l, tt)
 
-pub no_command : (line : List ℕ) (e : ℕ) (ws : List Word) (m : Malformed) → FaultyLine e ws m → (c : Command) → Spelt line (spelling c) ws → ⊥
+no_command : (line : List ℕ) (e : ℕ) (ws : List Word) (m : Malformed) → FaultyLine e ws m → (c : Command) → Spelt line (spelling c) ws → ⊥
 no_command line e [] m f c s = f
 no_command line e (w ∷ ws) m f (C.Equal a b) s =
     clash line e (a_literal ∷ a_literal ∷ []) (literal a ∷ literal b ∷ []) ws m (is_literal a, (is_literal b, tt)) s.1.1 (first line e (codes "equal") (literal a ∷ literal b ∷ []) w ws m s f)
@@ -140,3 +140,7 @@ no_command line e (w ∷ ws) m f (C.Find t false) s = clash line e (a_name ∷ [
 no_command line e (w ∷ ws) m f (C.Row n) s = clash line e (a_number 64 ∷ []) (number 64 n ∷ []) ws m (is_number 64 n, tt) s.1.1 (first line e (codes "row") (number 64 n ∷ []) w ws m s f)
 no_command line e (w ∷ ws) m f (C.Cell c) s = clash line e (cell_parts ws) (cell_items c) ws m (cell_sorts line c ws s.1.1) s.1.1 (first line e (codes "cell") (cell_items c) w ws m s f)
 no_command line e (w ∷ ws) m f (C.Get t) s = clash line e (a_name ∷ []) (name t ∷ []) ws m (is_name t, tt) s.1.1 (first line e (codes "get") (name t ∷ []) w ws m s f)
+
+pub spells_none : (line : List ℕ) (r : Result (Option Command) Malformed) → Read line r → SpellsNone line r
+spells_none line (Ok o) h = tt
+spells_none line (Err m) h = no_command line (length line) (words line) m h.1

@@ -28,8 +28,7 @@ fn parent(mut reader: Reader) -> Result<Option<usize>, Malformed>
         return Ok(None);
     }
     reader.pass(b"in")?;
-    let place = reader.last::<usize>()?;
-    Ok(Some(place))
+    reader.last::<usize>().map(Some)
 }
 
 fn field(mut reader: Reader) -> Result<Command, Malformed>
@@ -107,16 +106,9 @@ pub fn parse(line: &[u8]) -> Result<Option<Command>, Malformed>
 {
     let mut words = Words::of(line);
     match words.next() {
-        Some(first) => {
-            if begins_a_comment(first.text()) {
-                Ok(None)
-            } else if first.is_left_open() {
-                Err(Fault::OpenQuote.at(first))
-            } else {
-                let command = command(first, Reader { words })?;
-                Ok(Some(command))
-            }
-        }
+        Some(first) if begins_a_comment(first.text()) => Ok(None),
+        Some(first) if first.is_left_open() => Err(Fault::OpenQuote.at(first)),
+        Some(first) => command(first, Reader { words }).map(Some),
         None => Ok(None),
     }
 }

@@ -39,9 +39,6 @@ pub front_end : (line : List ℕ) (n : ℕ) (quoted : Bool) → n < length line 
 front_end line n quoted h b =
     ap length (at_drop_more (front quoted) line n 0 h ∙ cond-true (blank (get_or line n 0) && not quoted) _ _ b)
 
-pub front_past : (line : List ℕ) (n : ℕ) (quoted : Bool) → length line ≤ n → length (front quoted (drop n line)) ≡ 0
-front_past line n quoted h = ap length (at_drop_all (front quoted) line n h)
-
 taken : (quoted : Bool) (t : List ℕ) → take (length (front quoted t)) t ≡ front quoted t
 taken quoted [] = refl
 taken quoted (c ∷ cs) =

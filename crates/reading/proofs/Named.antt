@@ -1,49 +1,33 @@
 -- Kinds by name.
-use Rattle.std.proofs.Common.{◌≡◌, ℕ, true, ltb, List, [], ◌∷◌, ◌++◌, Some, None, codes, decimal, IsAscii, IsUtf8, Option, sym, refl, ap, ◌∙◌}
-use Rattle.std.specs.List.{list_all}
-use Rattle.std.proofs.lemmas.List.{append_cancel_left, append_cancel_right}
-use Rattle.std.proofs.lemmas.Bool.{and_parts, ltb-true}
+use Rattle.std.proofs.Common.{◌≡◌, ℕ, List, ◌++◌, Some, None, codes, decimal, IsUtf8, Option, refl, ap, ◌∙◌}
 use Rattle.std.proofs.lemmas.Str.{IsUtf8-from_ascii, IsUtf8-append}
-use Rattle.std.proofs.lemmas.Str.Ascii.{IsAscii-nil, IsAscii-cons}
 use Rattle.std.proofs.lemmas.Fmt.{IsAscii-decimal}
 use Rattle.values.specs.declared.kinds.Kind.{Kind}
 use Rattle.values.specs.declared.kinds.Kind.TheVariants as K
+use Rattle.reading.specs.Ascii.{ascii_is_text}
 use Rattle.reading.specs.Writing.{Reads, Natural, kind_text, Lasting, KindWord, FixedWord}
 
 -- what lies between the brackets
 pub fixed_length : (t r d : List ℕ) (n : ℕ) → t ≡ codes "fixed(" ++ r → r ≡ d ++ codes ")" → Natural 64 n d → KindWord (K.Fixed n) t
 fixed_length t r d n e f w = (w.0, e ∙ ap (λ (x : List ℕ). codes "fixed(" ++ x) (f ∙ ap (λ (x : List ℕ). x ++ codes ")") w.1))
 
-pub bracketed : (t r : List ℕ) (n : ℕ) → t ≡ codes "fixed(" ++ r → KindWord (K.Fixed n) t → r ≡ decimal n ++ codes ")"
-bracketed t r n e w = append_cancel_left (codes "fixed(") r (decimal n ++ codes ")") (sym e ∙ w.1)
-
-pub length_digits : (t r d : List ℕ) (n : ℕ) → t ≡ codes "fixed(" ++ r → r ≡ d ++ codes ")" → KindWord (K.Fixed n) t → Natural 64 n d
-length_digits t r d n e f w = (w.0, append_cancel_right d (decimal n) (codes ")") (sym f ∙ bracketed t r n e w))
-
-ascii : (bs : List ℕ) → list_all (λ c. ltb c 128) bs ≡ true → IsAscii bs
-ascii [] h = IsAscii-nil
-ascii (c ∷ cs) h = let p = and_parts (ltb c 128) (list_all (λ d. ltb d 128) cs) h in IsAscii-cons c cs (ltb-true c 128 p.0) (ascii cs p.1)
-
-utf8 : (bs : List ℕ) → list_all (λ c. ltb c 128) bs ≡ true → IsUtf8 bs
-utf8 bs h = IsUtf8-from_ascii bs (ascii bs h)
-
 -- a kind's name is text
 named_in_text : (k : Kind) → Lasting k → IsUtf8 (kind_text k)
-named_in_text K.Boolean l = utf8 (codes "boolean") refl
-named_in_text K.Int l = utf8 (codes "int") refl
-named_in_text K.Date l = utf8 (codes "date") refl
-named_in_text K.Long l = utf8 (codes "long") refl
-named_in_text K.Time l = utf8 (codes "time") refl
-named_in_text K.Timestamp l = utf8 (codes "timestamp") refl
-named_in_text K.Timestamptz l = utf8 (codes "timestamptz") refl
-named_in_text K.TimestampNs l = utf8 (codes "timestamp_ns") refl
-named_in_text K.TimestamptzNs l = utf8 (codes "timestamptz_ns") refl
-named_in_text K.Float l = utf8 (codes "float") refl
-named_in_text K.Double l = utf8 (codes "double") refl
-named_in_text K.String l = utf8 (codes "string") refl
+named_in_text K.Boolean l = ascii_is_text (codes "boolean") refl
+named_in_text K.Int l = ascii_is_text (codes "int") refl
+named_in_text K.Date l = ascii_is_text (codes "date") refl
+named_in_text K.Long l = ascii_is_text (codes "long") refl
+named_in_text K.Time l = ascii_is_text (codes "time") refl
+named_in_text K.Timestamp l = ascii_is_text (codes "timestamp") refl
+named_in_text K.Timestamptz l = ascii_is_text (codes "timestamptz") refl
+named_in_text K.TimestampNs l = ascii_is_text (codes "timestamp_ns") refl
+named_in_text K.TimestamptzNs l = ascii_is_text (codes "timestamptz_ns") refl
+named_in_text K.Float l = ascii_is_text (codes "float") refl
+named_in_text K.Double l = ascii_is_text (codes "double") refl
+named_in_text K.String l = ascii_is_text (codes "string") refl
 named_in_text (K.Fixed n) l =
-    IsUtf8-append (codes "fixed(") (decimal n ++ codes ")") (utf8 (codes "fixed(") refl) (IsUtf8-append (decimal n) (codes ")") (IsUtf8-from_ascii (decimal n) (IsAscii-decimal n l)) (utf8 (codes ")") refl))
-named_in_text K.Binary l = utf8 (codes "binary") refl
+    IsUtf8-append (codes "fixed(") (decimal n ++ codes ")") (ascii_is_text (codes "fixed(") refl) (IsUtf8-append (decimal n) (codes ")") (IsUtf8-from_ascii (decimal n) (IsAscii-decimal n l)) (ascii_is_text (codes ")") refl))
+named_in_text K.Binary l = ascii_is_text (codes "binary") refl
 
 pub no_text : (t : List ℕ) → (IsUtf8 t → ⊥) → (k : Kind) → KindWord k t → ⊥
 no_text t n k w = n (rw w.1 (named_in_text k w.0))

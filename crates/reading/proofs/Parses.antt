@@ -10,6 +10,7 @@ use Rattle.std.proofs.lemmas.Str.Ascii.{IsAscii-nil, IsAscii-cons}
 use Rattle.std.proofs.lemmas.Bool.{cases_Bool, cases_lt, false≢true, and_parts, or_cases, eqb-true, ltb-true}
 use Rattle.std.proofs.lemmas.Str.{IsUtf8-from_ascii}
 use Rattle.std.proofs.lemmas.Bool.Decides.{nat_tests}
+use Rattle.reading.specs.Ascii.{ascii_is_text}
 use Rattle.reading.specs.Writing.{Reads, Parsed}
 use Rattle.values.specs.declared.kinds.Storage.{Storage}
 use Rattle.values.specs.declared.kinds.Storage.TheVariants as S
@@ -97,8 +98,8 @@ double_value line t s w (Some x) m k e h g = let r = float_of binary64 64 t (Som
 double_value line t s w None m k e h g = rw (k, g) (λ c v. float_of binary64 64 t None h v.0 (rw (← e) at v.1.1))
 
 words_are_text : (b : Bool) → IsUtf8 (cond b (codes "true") (codes "false"))
-words_are_text true = IsUtf8-from_ascii (codes "true") (spelt_ascii (codes "true") (codes "true") refl refl)
-words_are_text false = IsUtf8-from_ascii (codes "false") (spelt_ascii (codes "false") (codes "false") refl refl)
+words_are_text true = ascii_is_text (codes "true") refl
+words_are_text false = ascii_is_text (codes "false") refl
 
 truth_of : {E : Type 0} (t : List ℕ) (r : Result Bool E) → ParsesBool t r → Reads (λ b u. u ≡ cond b (codes "true") (codes "false")) t (result_ok r)
 truth_of t (Ok true) h = h

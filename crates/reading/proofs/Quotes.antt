@@ -1,5 +1,5 @@
 -- Words between quotes, and bare ones.
-use Rattle.std.proofs.Common.{◌≡◌, ℕ, zero, suc, ◌+◌, ◌-◌, ◌<◌, ◌≤◌, Bool, true, false, not, ◌&&◌, eqb, ltb, List, [], ◌∷◌, ◌++◌, length, get_or, take, drop, sym, refl, ap, ◌∙◌, inl, inr, arith, length-append, length-drop, length-take}
+use Rattle.std.proofs.Common.{◌≡◌, ℕ, zero, suc, ◌+◌, ◌-◌, ◌<◌, ◌≤◌, Bool, true, false, not, ◌&&◌, eqb, ltb, List, [], ◌∷◌, ◌++◌, length, get_or, take, drop, sym, refl, ap, ◌∙◌, inl, inr, arith, length-append, length-take}
 use Rattle.std.proofs.lemmas.List.{take_all, take-take, take_more, drop-drop, append_cancel_right, get_or_at}
 use Rattle.std.proofs.lemmas.Bool.{cases_Bool, and_parts, and_from, false≢true, eq-eqb, eqb-true, lt-ltb, ltb-true, leb-true, le-leb}
 use Rattle.std.specs.Bool.{then_some}
@@ -31,10 +31,6 @@ middle : (xs : List ℕ) (len : ℕ) → 1 < length (take len xs) → take (leng
 middle xs zero l = absurd (omega arith)
 middle [] (suc m) l = absurd (omega arith)
 middle (x ∷ xs) (suc m) l = take-take (suc (length (take m xs)) - 2) m xs (omega (arith, length-take m xs))
-
--- a word of which more than n bytes are in the line begins more than n bytes before the line's end
-pub room : (line t : List ℕ) (w : Span) (n : ℕ) → t ≡ bytes_at line w → n < length t → w.start + n < length line
-room line t w n e l = omega (arith, ap length e, length-take w.len (drop w.start line), length-drop w.start line)
 
 pub shorter : (line t : List ℕ) (w : Span) → t ≡ bytes_at line w → length t ≤ w.len
 shorter line t w e = omega (arith, ap length e, length-take w.len (drop w.start line))

@@ -4,3 +4,4 @@ pub mod Writing
 pub mod Literals
 pub mod Placed
 pub mod Printed
+pub mod Ascii

@@ -2,12 +2,13 @@ use Rattle.std.proofs.Common.{◌≡◌, [], ◌∷◌, length, codes, Ok, Err, 
 use Rattle.std.specs.Result.{MatchResult}
 use Rattle.std.proofs.lemmas.Result.{err_from_is_err_and}
 use Rattle.values.specs.Contents.{bytes_at}
+use Rattle.reading.specs.Ascii.{ascii_is_text}
 use Rattle.reading.specs.NextWord.{word_at, words_left}
 use Rattle.commands.specs.declared.command.CellWord.TheVariants as W
 use Rattle.commands.specs.Spelling.{word, number}
 use Rattle.commands.specs.Grammar.{the}
 use Rattle.commands.proofs.Words.{named_or, unnamed_or, own_word, spelt}
-use Rattle.commands.proofs.Forms.{no_cell_word, cell_value, utf8}
+use Rattle.commands.proofs.Forms.{no_cell_word, cell_value}
 use Rattle.commands.proofs.lines.cell.Goals as goal
 use Rattle.commands.proofs.lines.cell.Goals.{After-unwrap_or}
 
@@ -42,8 +43,8 @@ returns-in_default c =
     record {
       goes_by_the_next_word =
           cell_value s (word_at s.line.now place) (words_left c.word.new.self.words) c.last.result c.map-in_default.result (rw next.0.1.1.0 (rw next.0.1.1.1 next.0.0.first))
-          (unnamed_or s.line.now c.text.result.now place c.as_str.result _ c.unwrap_or.result (codes "null") same c.unwrap_or.ensures (utf8 (codes "null") refl) read c.in_default.not-null)
-          (unnamed_or s.line.now c.text.result.now place c.as_str.result _ c.unwrap_or.result (codes "group") same c.unwrap_or.ensures (utf8 (codes "group") refl) read c.in_default.not-group)
-          (unnamed_or s.line.now c.text.result.now place c.as_str.result _ c.unwrap_or.result (codes "list") same c.unwrap_or.ensures (utf8 (codes "list") refl) read c.in_default.not-list)
+          (unnamed_or s.line.now c.text.result.now place c.as_str.result _ c.unwrap_or.result (codes "null") same c.unwrap_or.ensures (ascii_is_text (codes "null") refl) read c.in_default.not-null)
+          (unnamed_or s.line.now c.text.result.now place c.as_str.result _ c.unwrap_or.result (codes "group") same c.unwrap_or.ensures (ascii_is_text (codes "group") refl) read c.in_default.not-group)
+          (unnamed_or s.line.now c.text.result.now place c.as_str.result _ c.unwrap_or.result (codes "list") same c.unwrap_or.ensures (ascii_is_text (codes "list") refl) read c.in_default.not-list)
           c.last.ensures.takes_all made;
     }

@@ -1,9 +1,10 @@
 use Rattle.std.proofs.Common.{◌≡◌, ℕ, List, ◌∷◌, length, true, codes, ltb, refl}
 use Rattle.std.specs.List.{list_all}
 use Rattle.values.specs.Contents.{bytes_at}
+use Rattle.reading.specs.Ascii.{ascii_is_text}
 use Rattle.reading.specs.NextWord.{word_at, words_left}
 use Rattle.commands.proofs.Words.{named_or, unnamed_or}
-use Rattle.commands.proofs.Forms.{utf8, dispatched, unknown}
+use Rattle.commands.proofs.Forms.{dispatched, unknown}
 use Rattle.commands.proofs.lines.command.Goals as goal
 use Rattle.commands.proofs.lines.command.Goals.{After-unwrap_or}
 
@@ -15,7 +16,7 @@ named c n ns e =
 unnamed : (c : After-unwrap_or) (w : List ℕ) → list_all (λ d. ltb d 128) w ≡ true → (c.unwrap_or.result.now ≡ w → ⊥) → bytes_at c.args.first.line.now c.args.first.place ≡ w → ⊥
 unnamed c w a n =
     unnamed_or c.args.first.line.now c.text.result.now c.args.first.place c.as_str.result _ c.unwrap_or.result w
-    c.text.ensures.are_the_bytes_there c.unwrap_or.ensures (utf8 w a) c.as_str.ensures.is_text_of_those_bytes n
+    c.text.ensures.are_the_bytes_there c.unwrap_or.ensures (ascii_is_text w a) c.as_str.ensures.is_text_of_those_bytes n
 
 pub returns-in-convert : goal.returns-in-convert
 returns-in-convert c =
