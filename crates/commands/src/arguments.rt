@@ -54,6 +54,7 @@ impl Argument for Kind {
     }
 }
 
+// Two impls, since one for each Number would overlap the others.
 impl Argument for u32 {
     ghost part = { a_number 32 };
 

@@ -1,5 +1,6 @@
 mod Found
 mod Named
-mod Parses
+mod FloatBytes
+mod Truths
 mod Quotes
 mod Colons

@@ -1,7 +1,8 @@
 use Rattle.std.proofs.Common.{◌≡◌, Some, None, rules}
 use Rattle.std.specs.Option.{MatchOption}
 use Rattle.values.specs.declared.literals.Value.TheVariants as V
-use Rattle.reading.proofs.Parses.{truth_value, single_value, double_value}
+use Rattle.reading.proofs.FloatBytes.{single_value, double_value}
+use Rattle.reading.proofs.Truths.{truth_value}
 use Rattle.reading.proofs.literals.read_value.Goals as goal
 
 pub returns-in-Boolean : goal.returns-in-Boolean

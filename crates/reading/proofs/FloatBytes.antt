@@ -1,16 +1,14 @@
--- Texts that std reads as floats and truth values.
-use Rattle.std.proofs.Common.{◌≡◌, ℕ, ◌<◌, ◌≤◌, Bool, true, false, ◌&&◌, ◌||◌, eqb, ltb, List, [], ◌∷◌, None, Ok, Err, IsAscii, IsUtf8, Some, cond, codes, Option, Result, sym, refl, ap, ◌∙◌, inl, inr, arith}
+-- Texts that std reads as floats.
+use Rattle.std.proofs.Common.{◌≡◌, ℕ, ◌<◌, ◌≤◌, Bool, true, false, ◌&&◌, ◌||◌, eqb, ltb, List, [], ◌∷◌, None, Ok, Err, IsAscii, Some, Option, Result, sym, refl, ap, ◌∙◌, inl, inr, arith}
 use lib.Ieee.{Float, Format, binary32, binary64}
 use Rattle.std.specs.Float.Parse.{float_scan_step, completes_number, lowercases_to, without_sign, is_infinity_text, is_nan_text, is_float_text, ParsesFloat, IsParseFloatResult}
 use Rattle.std.specs.Result.{result_ok}
 use Rattle.std.specs.Option.{MatchOption}
-use Rattle.std.specs.Str.Parse.{ParsesBool}
 use Rattle.std.specs.Char.{to_ascii_lowercase}
 use Rattle.std.proofs.lemmas.Str.Ascii.{IsAscii-nil, IsAscii-cons}
 use Rattle.std.proofs.lemmas.Bool.{cases_Bool, cases_lt, false≢true, and_parts, or_cases, eqb-true, ltb-true}
 use Rattle.std.proofs.lemmas.Str.{IsUtf8-from_ascii}
 use Rattle.std.proofs.lemmas.Bool.Decides.{nat_tests}
-use Rattle.reading.specs.Ascii.{ascii_is_text}
 use Rattle.reading.specs.Writing.{Reads, Parsed}
 use Rattle.values.specs.declared.kinds.Storage.{Storage}
 use Rattle.values.specs.declared.kinds.Storage.TheVariants as S
@@ -96,21 +94,3 @@ pub double_value : {E : Type 0} (line t : List ℕ) (s : Storage) (w : Span) (o 
     → Parsed {E = E} (λ u r. ParsesFloat binary64 64 u r × IsParseFloatResult binary64 u r) t o → MatchOption o (m ≡ None) (λ x. m ≡ Some (V.Double x)) → ValueRead line s w m
 double_value line t s w (Some x) m k e h g = let r = float_of binary64 64 t (Some x) h in rw (k, g) ((x, (refl, (rw e at r))), λ o. refl)
 double_value line t s w None m k e h g = rw (k, g) (λ c v. float_of binary64 64 t None h v.0 (rw (← e) at v.1.1))
-
-words_are_text : (b : Bool) → IsUtf8 (cond b (codes "true") (codes "false"))
-words_are_text true = ascii_is_text (codes "true") refl
-words_are_text false = ascii_is_text (codes "false") refl
-
-truth_of : {E : Type 0} (t : List ℕ) (r : Result Bool E) → ParsesBool t r → Reads (λ b u. u ≡ cond b (codes "true") (codes "false")) t (result_ok r)
-truth_of t (Ok true) h = h
-truth_of t (Ok false) h = h
-truth_of t (Err e) h = elim [ true ↦ h.0 | false ↦ h.1 ]
-
-truth_read : {E : Type 0} (t : List ℕ) (o : Option Bool) → Parsed {E = E} ParsesBool t o → Reads (λ b u. u ≡ cond b (codes "true") (codes "false")) t o
-truth_read t o (inl h) = rw h.1 (λ b e. h.0 (rw e (words_are_text b)))
-truth_read t o (inr h) = rw h.1.1 (truth_of t h.0 h.1.0)
-
-pub truth_value : {E : Type 0} (line t : List ℕ) (s : Storage) (w : Span) (o : Option Bool) (m : Option Value) → s ≡ S.Boolean → t ≡ bytes_at line w
-    → Parsed {E = E} ParsesBool t o → MatchOption o (m ≡ None) (λ b. m ≡ Some (V.Boolean b)) → ValueRead line s w m
-truth_value line t s w (Some b) m k e h g = let r = truth_read t (Some b) h in rw (k, g) ((b, (refl, (sym e ∙ r))), λ o. refl)
-truth_value line t s w None m k e h g = rw (k, g) (λ c v. truth_read t None h v.0 (e ∙ v.1.1))
