@@ -79,12 +79,12 @@ pub enum Fault {
 
 impl Fault {
     ghost use Rattle.std.specs.Prelude.{◌≡◌};
-    ghost use Rattle.reading.specs.NextWord.{word_at};
+    ghost use Rattle.reading.specs.NextWord.{word_of};
     ghost use Rattle.commands.specs.Grammar.{at_word};
 
     // That fault at that word.
     pub(crate) fn at(self, word: Word) -> Malformed
-        ensures begins_where_the_word_does { result ≡ at_word self (word_at word.entry.line.now word.entry.place) }
+        ensures begins_where_the_word_does { result ≡ at_word self (word_of word.entry) }
     {
         Malformed {
             what: self,

@@ -1,6 +1,6 @@
 // A line as a command.
 ghost use Rattle.std.specs.Prelude.{◌≡◌, false, codes, ◌==◌, slice_index};
-ghost use Rattle.reading.specs.NextWord.{word_at, words_left};
+ghost use Rattle.reading.specs.NextWord.{word_of, words_left};
 ghost use Rattle.commands.specs.Spelling.{parent_items, cell_items};
 ghost use Rattle.commands.specs.Grammar.{parent_parts, cell_parts, open_quote, Read, SpellsNone};
 ghost use Rattle.commands.specs.Steps.{Done, CommandRead, Follows};
@@ -66,7 +66,7 @@ fn cell(reader: Reader) -> Result<CellWord, Malformed>
 
 // The command that begins with the first word, and goes on with the others.
 fn command(first: Word, others: Reader) -> Result<Command, Malformed>
-    ensures goes_by_the_first_word { open_quote (word_at first.entry.line.now first.entry.place) ≡ false → CommandRead others.entry.words.line.now (word_at first.entry.line.now first.entry.place) (words_left others.entry.words) result }
+    ensures goes_by_the_first_word { open_quote (word_of first.entry) ≡ false → CommandRead others.entry.words.line.now (word_of first.entry) (words_left others.entry.words) result }
 {
     match as_str(first.text()).unwrap_or("") {
         "equal" => others

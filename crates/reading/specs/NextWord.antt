@@ -20,6 +20,13 @@ abbrev pub Next : List ℕ → ℕ → Option Span → Type 0
 Next line n None = words_from line n ≡ []
 Next line n (Some s) = Found line n s
 
+-- a word's bytes, and the word as it stands in its line
+abbrev pub text_of : Placed → List ℕ
+text_of w = bytes_at w.line.now w.place
+
+abbrev pub word_of : Placed → Word
+word_of w = word_at w.line.now w.place
+
 -- the words that are left
 abbrev pub words_left : Words → List Word
 words_left s = words_from s.line.now s.at

@@ -1,9 +1,8 @@
 // The words of a line, one after another.
 ghost use Rattle.std.specs.Prelude.{◌≡◌, false, not, ◌&&◌, length, Decides, MatchOption, IsUtf8, position, fold};
 ghost use Rattle.std.specs.Iterator.{item_count};
-ghost use Rattle.values.specs.Contents.{bytes_at};
 ghost use Rattle.reading.specs.Words.{blank, turned, left_open, front};
-ghost use Rattle.reading.specs.NextWord.{Steps, words_left};
+ghost use Rattle.reading.specs.NextWord.{Steps, words_left, text_of};
 
 use values::literals::Span;
 
@@ -17,21 +16,21 @@ pub struct Word<'a> {
 impl<'a> Word<'a> {
     // Its bytes.
     pub fn text(self) -> &'a [u8]
-        ensures are_the_bytes_there { result.now ≡ bytes_at self.entry.line.now self.entry.place }
+        ensures are_the_bytes_there { result.now ≡ text_of self.entry }
     {
         self.place.of(self.line)
     }
 
     // Whether it leaves a quote open.
     pub fn is_left_open(self) -> bool
-        ensures counts_by_twos { result ≡ left_open false (bytes_at self.entry.line.now self.entry.place) }
+        ensures counts_by_twos { result ≡ left_open false (text_of self.entry) }
     {
         leaves_open(self.text())
     }
 
     // Whether it is that word.
     pub fn spells(self, word: &[u8]) -> bool
-        ensures tells_equal_bytes { Decides result (bytes_at self.entry.line.now self.entry.place ≡ word.now) }
+        ensures tells_equal_bytes { Decides result (text_of self.entry ≡ word.now) }
     {
         self.text() == word
     }
