@@ -2,7 +2,7 @@
 ghost use Rattle.book.specs.Equality.{same_literal};
 ghost use Rattle.book.specs.Equal.{literal_reflexive, literal_symmetric, literal_transitive};
 
-use comparison::data::same;
+use comparison::data::Datum;
 use lists::policy::{Equality, Reflexive, Test};
 use values::literals::Literal;
 
@@ -17,7 +17,7 @@ impl<'a> Test for Literals<'a> {
     ghost passed = { λ s a b. same_literal s.text.now a b };
 
     fn passes(&self, earlier: &Literal, later: &Literal) -> bool {
-        same(earlier, self.text, later, self.text)
+        Datum::new(*earlier, self.text) == Datum::new(*later, self.text)
     }
 }
 

@@ -65,16 +65,16 @@ impl Value {
     pub fn is_kept_in(self, storage: Storage) -> bool
         ensures asks_the_case { (t : List ℕ) → result ≡ kept_in storage (content_of t self) }
     {
-        match (self, storage) {
-            (Value::Boolean(_), Storage::Boolean) => true,
-            (Value::Int(_), Storage::Int) => true,
-            (Value::Long(_), Storage::Long) => true,
-            (Value::Float(_), Storage::Float) => true,
-            (Value::Double(_), Storage::Double) => true,
-            (Value::String(_), Storage::String) => true,
-            (Value::Binary(_), Storage::Binary) => true,
-            _ => false,
-        }
+        matches!(
+            (self, storage),
+            (Value::Boolean(_), Storage::Boolean)
+                | (Value::Int(_), Storage::Int)
+                | (Value::Long(_), Storage::Long)
+                | (Value::Float(_), Storage::Float)
+                | (Value::Double(_), Storage::Double)
+                | (Value::String(_), Storage::String)
+                | (Value::Binary(_), Storage::Binary)
+        )
     }
 
     // Whether the text, if the value has any, lies inside that many bytes.
