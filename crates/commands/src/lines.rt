@@ -105,6 +105,7 @@ pub fn parse(line: &[u8]) -> Result<Option<Command>, Malformed>
     ensures refuses_no_command { SpellsNone line.now result }
 {
     let mut words = Words::of(line);
+    // no word is one case of four, which a `?` would take out of the table
     match words.next() {
         Some(first) if begins_a_comment(first.text()) => Ok(None),
         Some(first) if first.is_left_open() => Err(Fault::OpenQuote.at(first)),
