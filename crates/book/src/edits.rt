@@ -22,8 +22,7 @@ pub enum Keep {
     Both,
 }
 
-// Strikes the filter whole. `Whole` is asked here and below of a table and a number, and no type of one filter can keep
-// it: an edit of one filter keeps it for the others too.
+// Strikes the filter whole. `Whole` is of a table and a number: an edit keeps it for other filters too, as no type of one can.
 pub fn strike<T: Copy>(slots: &mut [Slot<T>], at: u16)
     requires { Whole slots.old at }
     ensures strikes_each_node { slots.new ≡ struck (filter_at slots.old at) slots.old }

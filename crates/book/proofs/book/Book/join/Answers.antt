@@ -9,6 +9,12 @@ use Rattle.book.proofs.Edited.{mark_is}
 use Rattle.book.proofs.Called.{granted_left, granted_right, granted_room, joins_by, joins_both, joins_full}
 use Rattle.book.proofs.book.Book.join.Goals as goal
 
+pub strike-requires : goal.strike-requires
+strike-requires g c = granted_right (setting g.T.Term.within c.args.self.now) (tables c.args.self.now) _ _ _ _ c.in_ok-check_two.ensures.asks_two_that_stand
+
+pub strike-requires-in-Second : goal.strike-requires-in-Second
+strike-requires-in-Second g c = granted_left (setting g.T.Term.within c.args.self.now) (tables c.args.self.now) _ _ _ _ c.in_ok-check_two.ensures.asks_two_that_stand
+
 pub bounds-self-b-in_ok-check_room-in-Both : goal.bounds-self-b-in_ok-check_room-in-Both
 bounds-self-b-in_ok-check_room-in-Both g c = simp length-set (granted_right (setting g.T.Term.within c.args.self.now) (tables c.args.self.now) _ _ _ _ c.in_ok-check_two.ensures.asks_two_that_stand).inside
 
