@@ -83,18 +83,12 @@ admitted_is n ls = by (first_failing (λ l. text_inside n l.value) 0 ls) (first_
 pub ruleset reasons = (granted_first, granted_next, admitted_is)
 
 module _ {T : Type 0} where
-  pub no : (b : Tables T) (o : Option Refused) (done : After T) (e : Refused) → Some e ≡ o → after b (Err e) ≡ outcome b o done
-  no b o done e h = ap (λ x. outcome b x done) h
-
-  pub yes' : (b : Tables T) (o : Option Refused) (done x : After T) → None ≡ o → x ≡ done → x ≡ outcome b o done
-  yes' b o done x h i = i ∙ ap (λ y. outcome b y done) h
-
   -- a call refused, and one granted
   pub refuses : {X : Type 0} (b : Tables T) (o : Option Refused) (x : X) (e : Refused) (done : After T) → Err e ≡ granted o x → after b (Err e) ≡ outcome b o done
-  refuses b o x e done h = no b o done e (granted_some o x e h)
+  refuses b o x e done h = ap (λ p. outcome b p done) (granted_some o x e h)
 
   pub grants : {X : Type 0} (b : Tables T) (o : Option Refused) (x y : X) (a done : After T) → Ok y ≡ granted o x → a ≡ done → a ≡ outcome b o done
-  grants b o x y a done h i = yes' b o done a (granted_none o x y h) i
+  grants b o x y a done h i = i ∙ ap (λ p. outcome b p done) (granted_none o x y h)
 
   pub does : (within : Extent → T → Bool) (asked : Asked T) (b b' : Book T) (r : Result ℕ Refused) → after (tables b') r ≡ performed (setting within b) asked (tables b) → setting within b' ≡ setting within b → Does within asked b b' r
   does within asked b b' r e s = record { answers_and_leaves_what_the_rules_give = e; reads_the_same_text = s; is_a_step_of_every_run = λ ts ran. called asked _ _ ran e }
@@ -214,14 +208,14 @@ module _ {T : Type 0} (s : Setting T) (b : Tables T) where
         differ = eqb-false l r (not-true (eqb l r) (unless_none (not (eqb l r)) R.SameFilter l g.1));
       }
 
-  pub rewritten_low : (folds : Bool) (a n : ℕ) (ys : List (Slot T)) (x y : Unit {0}) → Ok y ≡ granted (barred_one s b a) x → n ≡ root (rewritten_placed folds opposite (filter_at b.slots a)) → ys ≡ rewriting folds (filter_at b.slots a) b.slots → n < length ys
-  rewritten_low folds a n ys x y e en ey = rewrite_inside b.slots b.used folds a n ys (free_whole b.slots b.used a (one a (granted_none (barred_one s b a) x y e)).free) en ey
-
-  pub negated_low : (a n : ℕ) (ys : List (Slot T)) (x y : Unit {0}) → Ok y ≡ granted (barred_one s b a) x → n ≡ root (negated_placed opposite (filter_at b.slots a)) → ys ≡ negation (filter_at b.slots a) b.slots → n < length ys
-  negated_low a n ys x y e en ey = negate_inside b.slots b.used a n ys (free_whole b.slots b.used a (one a (granted_none (barred_one s b a) x y e)).free) en ey
-
   pub granted_one : (a : ℕ) (x y : Unit {0}) → Ok y ≡ granted (barred_one s b a) x → Whole b.slots a
   granted_one a x y e = free_whole b.slots b.used a (one a (granted_none (barred_one s b a) x y e)).free
+
+  pub rewritten_low : (folds : Bool) (a n : ℕ) (ys : List (Slot T)) (x y : Unit {0}) → Ok y ≡ granted (barred_one s b a) x → n ≡ root (rewritten_placed folds opposite (filter_at b.slots a)) → ys ≡ rewriting folds (filter_at b.slots a) b.slots → n < length ys
+  rewritten_low folds a n ys x y e en ey = rewrite_inside b.slots b.used folds a n ys (granted_one a x y e) en ey
+
+  pub negated_low : (a n : ℕ) (ys : List (Slot T)) (x y : Unit {0}) → Ok y ≡ granted (barred_one s b a) x → n ≡ root (negated_placed opposite (filter_at b.slots a)) → ys ≡ negation (filter_at b.slots a) b.slots → n < length ys
+  negated_low a n ys x y e en ey = negate_inside b.slots b.used a n ys (granted_one a x y e) en ey
 
   pub granted_left : (l r : ℕ) (x y : Unit {0}) → Ok y ≡ granted (barred_two s b l r) x → Whole b.slots l
   granted_left l r x y e = free_whole b.slots b.used l (two l r (granted_none (barred_two s b l r) x y e)).left
