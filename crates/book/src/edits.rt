@@ -118,22 +118,17 @@ fn fold<T: Copy>(
     let i = at as usize;
     let left = slots[l as usize].node;
     let right = slots[r as usize].node;
-    match keeps(folds, connective, left, right) {
-        Keep::First => {
-            slots[i].mark = Mark::Struck;
-            strike(slots, r);
-            l
-        }
-        Keep::Second => {
-            slots[i].mark = Mark::Struck;
-            strike(slots, l);
-            r
-        }
+    let (kept, dropped) = match keeps(folds, connective, left, right) {
+        Keep::First => (l, r),
+        Keep::Second => (r, l),
         Keep::Both => {
             slots[i].node = joining(connective, l, r);
-            at
+            return at;
         }
-    }
+    };
+    slots[i].mark = Mark::Struck;
+    strike(slots, dropped);
+    kept
 }
 
 // Rewrites the filter in place without Nots, and answers where it then is.
