@@ -6,11 +6,10 @@ use Rattle.values.specs.declared.refusals.Reason.{Reason}
 use Rattle.schema.specs.declared.fields.Field.{Field}
 use Rattle.schema.specs.declared.names.Case.{Case}
 use Rattle.schema.specs.declared.names.Case.TheVariants.{Sensitive, Insensitive}
-use Rattle.schema.specs.Lines.{field_at}
 use Rattle.schema.specs.Names.{full_name, spelled}
 use Rattle.schema.specs.Lookups.{is_named, named, first_of, only_of, Named, NamedOnce}
 use Rattle.schema.specs.Rules.{Sound}
-use Rattle.schema.specs.Theorems.{UniqueNumbers, UniqueNames}
+use Rattle.schema.specs.Theorems.{UniqueNames}
 use Rattle.schema.proofs.Hits.{first_hit, two_hits, hits_none, hits_one}
 
 has_name : (c : Case) (fs : List Field) (t name : List ℕ) (i : ℕ) → is_named c fs t name i ≡ true → spelled c (full_name fs t i) ≡ spelled c name
@@ -37,10 +36,7 @@ unique f n new i j h k e =
     (λ (l : j < i). absurd (new i h j l (sym e))))
     (cases_order i j)
 
-pub unique_numbers : (fs : List Field) (t : List ℕ) → Sound fs t → UniqueNumbers fs
-unique_numbers fs t sound = unique (λ i. (field_at fs i).number) (length fs) (λ i h. (sound i h).number)
-
-pub unique_names : (fs : List Field) (t : List ℕ) → Sound fs t → UniqueNames fs t
+unique_names : (fs : List Field) (t : List ℕ) → Sound fs t → UniqueNames fs t
 unique_names fs t sound = unique (full_name fs t) (length fs) (λ i h. (sound i h).full)
 
 -- so the field of a name is the only one
