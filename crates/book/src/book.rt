@@ -1,4 +1,5 @@
-// The book: lent tables with their counts, public since they may come from outside in any state.
+// The book: nothing is allocated, so its tables are lent, each with its count; public since they may come from outside in
+// any state.
 ghost use Rattle.std.specs.Prelude.{◌≡◌, ◌+◌, ◌<◌, false, length, Ok, MatchResult};
 ghost use Rattle.nodes.specs.Soundness.{stands as stands_in, unsound as unsound_in};
 ghost use Rattle.book.specs.Edits.{constant};

@@ -38,6 +38,7 @@ pub fn offer<P: Equality>(
 pub const LIMIT: usize = 1024;
 
 // Lays a new list of the elements from the cell `start` on, and answers its end; or changes nothing, where it has no room.
+// Where it ends is its answer, so that no range of cells is handed in.
 pub fn keep_first<P: Equality>(
     policy: &P,
     from: &[P::Item],

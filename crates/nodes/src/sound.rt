@@ -103,6 +103,7 @@ fn parents<T: Copy>(slots: &[Slot<T>]) -> [u16; 256]
     requires { length slots.now ≤ 256 }
     ensures counts_them { (n : ℕ) → n < 256 → slice_index result n ≡ parents_of slots.now (length slots.now) n }
 {
+    // nothing is allocated: fixed memory for as many nodes as there may be
     let mut counts = [0; 256];
     for slot in slots {
         claim(&mut counts, *slot);
