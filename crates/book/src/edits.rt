@@ -39,7 +39,7 @@ pub fn strike<T: Copy>(slots: &mut [Slot<T>], at: u16)
     }
 }
 
-// Negates the filter in place, and answers where it then is.
+// Negates the filter in place, and answers where it then is. `Whole`: as at `strike`.
 pub fn flip<T: Copy>(slots: &mut [Slot<T>], at: u16) -> u16
     requires { Whole slots.old at }
     ensures answers_the_root { result ≡ root (negated_placed opposite (filter_at slots.old at)) }
@@ -100,7 +100,7 @@ pub fn joining<T: Copy>(connective: Connective, l: u16, r: u16) -> Node<T>
     }
 }
 
-// Folds the join at a node in place, and answers where the filter then is.
+// Folds the join at a node in place, and answers where the filter then is. `Whole`: as at `strike`.
 fn fold<T: Copy>(
     slots: &mut [Slot<T>],
     at: u16,
@@ -131,7 +131,8 @@ fn fold<T: Copy>(
     kept
 }
 
-// Rewrites the filter in place without Nots, and answers where it then is.
+// Rewrites the filter in place without Nots, and answers where it then is. `Whole`: as at `strike`. Whether joins fold is
+// a flag that `keeps` alone reads: a closure would hide that the two rewritings differ in nothing else.
 pub fn rewrite<T: Copy>(slots: &mut [Slot<T>], at: u16, folds: bool) -> u16
     requires { Whole slots.old at }
     ensures answers_the_root { result ≡ root (rewritten_placed folds opposite (filter_at slots.old at)) }

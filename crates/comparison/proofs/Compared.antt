@@ -86,9 +86,6 @@ comparable_turns a b = go (place_of a.kind) (place_of b.kind) (in_storage a) (in
 pub answer_of : (a b : Datum) → comparable a b ≡ true → compared a b ≡ content_order a.content b.content
 answer_of a b h = ap (λ (t : Bool). cond t (content_order a.content b.content) None) h
 
-pub no_answer_of : (a b : Datum) → comparable a b ≡ false → compared a b ≡ None
-no_answer_of a b h = ap (λ (t : Bool). cond t (content_order a.content b.content) None) h
-
 -- ---- the laws
 
 joins : (a b c : Datum) (o p : Ordering) → compared a b ≡ Some o → compared b c ≡ Some p → Forward o → Forward p → compared a c ≡ Some (then o p)

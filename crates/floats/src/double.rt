@@ -4,6 +4,7 @@ ghost use Rattle.std.specs.Float.{binary64};
 
 use crate::order::Floating;
 
+// Beside the other width an instance of one trait: each calls its own tests.
 impl Floating for f64 {
     ghost format = { binary64 };
 

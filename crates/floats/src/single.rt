@@ -4,6 +4,7 @@ ghost use Rattle.std.specs.Float.{binary32};
 
 use crate::order::Floating;
 
+// Beside the other width an instance of one trait: each calls its own tests.
 impl Floating for f32 {
     ghost format = { binary32 };
 

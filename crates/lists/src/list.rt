@@ -10,7 +10,7 @@ use crate::policy::Equality;
 use std::ops::Range;
 
 // What became of an element that was offered. Two of the three are no failure, so that this is neither an Option nor a Result.
-#[derive(Clone, Copy, Debug, PartialEq, Eq)]
+#[derive(Clone, Copy, PartialEq, Eq)]
 pub enum Offered {
     Kept,
     Dropped,

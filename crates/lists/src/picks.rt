@@ -50,6 +50,7 @@ fn copy_picked<T: Copy>(from: &[T], picks: &[usize], items: &mut [T], start: usi
     requires has_room { start + length picks.now ≤ length items.old }
     ensures writes_those_cells { items.new ≡ placed items.old start (chosen from.now picks.now) }
 {
+    // no `iter_mut`: after that of a slice a proof knows no element
     for (i, &place) in picks.iter().enumerate() {
         items[start + i] = from[place];
     }

@@ -146,7 +146,7 @@ pub fn unsound_node<T: Term>(
     }
 }
 
-// Whether a filter stands at the number.
+// Whether a filter stands at the number. Of a book's fields, as `unsound_node` is.
 pub fn stands<T: Copy>(slots: &[Slot<T>], used: usize, n: u16) -> bool
     ensures is_used_and_marked { result ≡ stands_in slots.now used n }
 {

@@ -17,6 +17,7 @@ const LIMIT: usize = 1024;
 #[derive(Clone, Copy)]
 pub struct CellRow<'a> {
     pub cells: &'a [Cell],
+    // no length of the table: how far the first group goes in it
     pub top: usize,
     // what the values name places of
     pub text: &'a [u8],

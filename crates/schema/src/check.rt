@@ -16,7 +16,8 @@ use values::refusals::{Reason, Refused};
 struct Seen<'a> {
     schema: Schema<'a>,
     count: usize,
-    // nothing is allocated: fixed memory, and the count beside it
+    // two keep-first lists, of numbers and of fields equal by full name; nothing is allocated: fixed memory, and the count
+    // beside it
     numbers: [u32; MAX_FIELDS],
     names: [usize; MAX_FIELDS],
     ghost lists_numbers: { ListedNumbers schema.fields.now count numbers },

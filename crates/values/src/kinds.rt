@@ -56,7 +56,7 @@ impl Kind {
         }
     }
 
-    // Whether the two are one kind and, if fixed, of one length.
+    // Whether the two are one kind and, if fixed, of one length: `==`, named beside the likeness that leaves lengths aside.
     pub fn is(self, other: Kind) -> bool
         ensures compares_lengths_too { result ≡ same_kind self other }
         ensures decides_equality { Decides result (self ≡ other) }
