@@ -8,7 +8,8 @@ use Rattle.values.specs.declared.kinds.Kind.{Kind}
 use Rattle.values.specs.declared.literals.Span.{Span}
 use Rattle.values.specs.declared.literals.Literal.{Literal}
 use Rattle.values.specs.Contents.{bytes_at, datum_of}
-use Rattle.reading.specs.Words.{Word, words}
+use Rattle.nodes.specs.declared.operators.PredicateOperator.{PredicateOperator}
+use Rattle.reading.specs.Words.{Word, words, words_from}
 use Rattle.commands.specs.declared.command.Command.{Command}
 use Rattle.commands.specs.declared.command.Command.TheVariants as C
 use Rattle.commands.specs.declared.command.Column.{Column}
@@ -17,8 +18,8 @@ use Rattle.commands.specs.declared.command.CellWord.{CellWord}
 use Rattle.commands.specs.declared.command.CellWord.TheVariants as W
 use Rattle.commands.specs.declared.command.Malformed.{Malformed}
 use Rattle.commands.specs.declared.command.Fault.TheVariants as F
-use Rattle.commands.specs.Spelling.{Item, word, literal, kind, number, name, column, presence_text, parent_items, cell_items, spelling, Says, Spelt}
-use Rattle.commands.specs.Grammar.{Part, the, a_literal, a_kind, a_number, a_name, a_column, a_presence, Misses, parent_parts, cell_parts, wanted, Faulty, FaultyBehind, FaultyLine, at_word, Read, SpellsNone}
+use Rattle.commands.specs.Spelling.{Item, word, literal, kind, number, name, column, presence_text, parent_items, cell_items, operator_text, some_literal, literal_items, spelling, Says, Spelt}
+use Rattle.commands.specs.Grammar.{Part, the, a_literal, a_kind, a_number, a_name, a_column, a_presence, an_operator, Misses, parent_parts, cell_parts, literal_parts, wanted, Faulty, FaultyBehind, FaultyLine, at_word, Read, SpellsNone}
 
 -- an item of the sort that the part wants
 Sort : Part → Item → Type 0
@@ -57,6 +58,14 @@ is_column c line t s m = m c s
 is_presence : (p : Presence) → Sort a_presence (word (presence_text p))
 unfolding Sort
 is_presence p line t s m = m p s
+
+is_operator : (op : PredicateOperator) → Sort an_operator (word (operator_text op))
+unfolding Sort
+is_operator op line t s m = m op s
+
+is_some_literal : (b : List ℕ) → Sort a_literal (some_literal b)
+unfolding Sort
+is_some_literal b line t s m = m s.1.0 s.1.1
 
 -- words that say items of the wanted sorts have no fault
 clash : (line : List ℕ) (e : ℕ) (ps : List Part) (is : List Item) (ws : List Word) (m : Malformed) → Sorts ps is → Spelt line is ws → Faulty e ps ws m → ⊥
@@ -122,7 +131,20 @@ cell_sorts line (W.Value l) (w ∷ ws) s =
     let h : has_colon w.text ≡ true = ap has_colon s.1.0.0.2.0 ∙ colon_in s.1.0.0.0 s.1.0.0.1 in
     rw (other w.text (codes "null") h refl, other w.text (codes "group") h refl, other w.text (codes "list") h refl) (is_literal l, tt)
 
-no_command : (line : List ℕ) (e : ℕ) (ws : List Word) (m : Malformed) → FaultyLine e ws m → (c : Command) → Spelt line (spelling c) ws → ⊥
+-- as many literals as words
+literal_sorts : (line : List ℕ) (vs ws : List Word) → Spelt line (literal_items vs) ws → Sorts (literal_parts ws) (literal_items vs)
+literal_sorts line [] [] s = tt
+literal_sorts line [] (w ∷ ws) s = s
+literal_sorts line (v ∷ vs) [] s = s
+literal_sorts line (v ∷ vs) (w ∷ ws) s = (is_some_literal v.text, literal_sorts line vs ws s.1.1)
+
+lay_sorts : (line : List ℕ) (n : Span) (op : PredicateOperator) (vs ws : List Word) → Spelt line (name n ∷ word (operator_text op) ∷ literal_items vs) ws
+    → Sorts (a_name ∷ an_operator ∷ literal_parts (drop 2 ws)) (name n ∷ word (operator_text op) ∷ literal_items vs)
+lay_sorts line n op vs [] s = absurd s
+lay_sorts line n op vs (v ∷ []) s = absurd s.1.1
+lay_sorts line n op vs (v ∷ w ∷ ws) s = (is_name n, (is_operator op, literal_sorts line vs ws s.1.1.1.1))
+
+no_command : (line : List ℕ) (e : ℕ) (ws : List Word) (m : Malformed) → FaultyLine e ws m → (c : Command) → Spelt line (spelling line c) ws → ⊥
 no_command line e [] m f c s = f
 no_command line e (w ∷ ws) m f (C.Equal a b) s =
     clash line e (a_literal ∷ a_literal ∷ []) (literal a ∷ literal b ∷ []) ws m (is_literal a, (is_literal b, tt)) s.1.1 (first line e (codes "equal") (literal a ∷ literal b ∷ []) w ws m s f)
@@ -140,6 +162,18 @@ no_command line e (w ∷ ws) m f (C.Find t false) s = clash line e (a_name ∷ [
 no_command line e (w ∷ ws) m f (C.Row n) s = clash line e (a_number 64 ∷ []) (number 64 n ∷ []) ws m (is_number 64 n, tt) s.1.1 (first line e (codes "row") (number 64 n ∷ []) w ws m s f)
 no_command line e (w ∷ ws) m f (C.Cell c) s = clash line e (cell_parts ws) (cell_items c) ws m (cell_sorts line c ws s.1.1) s.1.1 (first line e (codes "cell") (cell_items c) w ws m s f)
 no_command line e (w ∷ ws) m f (C.Get t) s = clash line e (a_name ∷ []) (name t ∷ []) ws m (is_name t, tt) s.1.1 (first line e (codes "get") (name t ∷ []) w ws m s f)
+no_command line e (w ∷ ws) m f (C.Constant true) s = clash line e [] [] ws m tt s.1.1 (first line e (codes "always-true") [] w ws m s f)
+no_command line e (w ∷ ws) m f (C.Constant false) s = clash line e [] [] ws m tt s.1.1 (first line e (codes "always-false") [] w ws m s f)
+no_command line e (w ∷ ws) m f (C.Lay n op at) s =
+    let is : List Item = name n ∷ word (operator_text op) ∷ literal_items (words_from line at) in
+    clash line e (a_name ∷ an_operator ∷ literal_parts (drop 2 ws)) is ws m (lay_sorts line n op (words_from line at) ws s.1.1) s.1.1 (first line e (codes "lay") is w ws m s f)
+no_command line e (w ∷ ws) m f (C.And a b) s = clash line e (a_number 16 ∷ a_number 16 ∷ []) (number 16 a ∷ number 16 b ∷ []) ws m (is_number 16 a, (is_number 16 b, tt)) s.1.1 (first line e (codes "and") (number 16 a ∷ number 16 b ∷ []) w ws m s f)
+no_command line e (w ∷ ws) m f (C.Or a b) s = clash line e (a_number 16 ∷ a_number 16 ∷ []) (number 16 a ∷ number 16 b ∷ []) ws m (is_number 16 a, (is_number 16 b, tt)) s.1.1 (first line e (codes "or") (number 16 a ∷ number 16 b ∷ []) w ws m s f)
+no_command line e (w ∷ ws) m f (C.Not a) s = clash line e (a_number 16 ∷ []) (number 16 a ∷ []) ws m (is_number 16 a, tt) s.1.1 (first line e (codes "not") (number 16 a ∷ []) w ws m s f)
+no_command line e (w ∷ ws) m f (C.Negate a) s = clash line e (a_number 16 ∷ []) (number 16 a ∷ []) ws m (is_number 16 a, tt) s.1.1 (first line e (codes "negate") (number 16 a ∷ []) w ws m s f)
+no_command line e (w ∷ ws) m f (C.Rewrite a) s = clash line e (a_number 16 ∷ []) (number 16 a ∷ []) ws m (is_number 16 a, tt) s.1.1 (first line e (codes "rewrite") (number 16 a ∷ []) w ws m s f)
+no_command line e (w ∷ ws) m f (C.Show a) s = clash line e (a_number 16 ∷ []) (number 16 a ∷ []) ws m (is_number 16 a, tt) s.1.1 (first line e (codes "show") (number 16 a ∷ []) w ws m s f)
+no_command line e (w ∷ ws) m f C.Book s = clash line e [] [] ws m tt s.1.1 (first line e (codes "book") [] w ws m s f)
 
 pub spells_none : (line : List ℕ) (r : Result (Option Command) Malformed) → Read line r → SpellsNone line r
 spells_none line (Ok o) h = tt

@@ -1,19 +1,22 @@
 -- One word after another.
-use Rattle.std.proofs.Common.{◌≡◌, ℕ, suc, List, [], ◌∷◌, length, Some, None, Ok, IsUtf8, Bor, Option, sym, ap, ◌∙◌, inr, arith}
+use Rattle.std.proofs.Common.{◌≡◌, ℕ, suc, false, List, [], ◌∷◌, length, Some, None, Ok, IsUtf8, Bor, Option, Decides, refl, sym, ap, ◌∙◌, subst, inr, arith}
+use Rattle.std.proofs.lemmas.Bool.{false≢true}
+use Rattle.nodes.specs.declared.operators.PredicateOperator.{PredicateOperator}
 use Rattle.values.specs.declared.literals.Span.{Span}
 use Rattle.values.specs.declared.literals.Literal.{Literal}
 use Rattle.values.specs.Contents.{bytes_at, datum_of}
 use Rattle.reading.specs.declared.words.Words.{Words}
-use Rattle.reading.specs.Words.{words_from}
+use Rattle.reading.specs.Words.{Word, words_from}
 use Rattle.reading.specs.NextWord.{word_at, words_left}
 use Rattle.reading.specs.declared.words.Word.{Word as Placed}
 use Rattle.std.specs.Option.{MatchOption, unwrap_or}
+use Rattle.reading.specs.Writing.{Reads}
 use Rattle.reading.specs.Placed.{LiteralRead}
 use Rattle.commands.specs.declared.command.Column.{Column}
 use Rattle.commands.specs.declared.command.Presence.{Presence}
 use Rattle.commands.specs.declared.command.Malformed.{Malformed}
-use Rattle.commands.specs.Spelling.{Item, literal, column, word, presence_text, ColumnWord, Spelt}
-use Rattle.commands.specs.Grammar.{Part, the, a_literal, a_column, a_presence, Faulty}
+use Rattle.commands.specs.Spelling.{Item, literal, some_literal, literal_items, column, word, presence_text, operator_text, OperatorWord, ColumnWord, Spelt}
+use Rattle.commands.specs.Grammar.{Part, the, a_literal, a_column, a_presence, an_operator, literal_parts, Faulty}
 use Rattle.commands.specs.Steps.{WordRead, WordFrom, Passed}
 
 pub literal_argument : (line : List ℕ) (s : Span) (r : Option Literal) → LiteralRead line s r → WordRead a_literal literal line s r
@@ -55,3 +58,35 @@ pub spelt : (s t : Words) (p : Part) (i : Item) (is : List Item) → Passed s p 
 spelt s t p i is h f =
     let g : Spelt s.line.now is (words_from s.line.now t.at) = rw h.0 at f in
     rw h.1.1.0 (h.1.1.1.0, (h.1.1.1.1.0, g))
+
+-- a literal is some literal
+some : (s t : Words) (l : Literal) (h : Passed s a_literal (literal l) t) → Passed s a_literal (some_literal h.1.0.text) t
+some s t l h = (h.0, (h.1.0, (h.1.1.0, (h.1.1.1.0, ((refl, (datum_of s.line.now l, h.1.1.1.1.0.0)), h.1.1.1.1.1)))))
+
+-- a word is passed
+abbrev pub behind_one : (s t : Words) (p : Part) (i : Item) → Passed s p i t → (w : Word) × (words_left s ≡ w ∷ words_left t)
+behind_one s t p i h = (h.1.0, rw h.0 h.1.1.0)
+
+-- of literals, the first is none
+pub first_literal : (e : ℕ) (ws : List Word) (m : Malformed) → Decides false (ws ≡ []) → ((ps : List Part) → Faulty e (a_literal ∷ ps) ws m) → Faulty e (literal_parts ws) ws m
+first_literal e [] m h f = absurd (false≢true (h.1 refl))
+first_literal e (w ∷ ws) m h f = f (literal_parts ws)
+
+-- or a later one
+pub later_literal : (s t : Words) (l : Literal) (m : Malformed) → Passed s a_literal (literal l) t
+    → Faulty (length t.line.now) (literal_parts (words_left t)) (words_left t) m → Faulty (length s.line.now) (literal_parts (words_left s)) (words_left s) m
+later_literal s t l m h f =
+    let P : List Part → Type 0 = λ ps. Faulty (length s.line.now) ps (words_left s) m in
+    subst P (sym (ap literal_parts (behind_one s t a_literal (literal l) h).1)) (later s t a_literal (literal l) (literal_parts (words_left t)) m h f)
+
+-- a literal more
+pub spelt_literal : (s t : Words) (l : Literal) → Passed s a_literal (literal l) t
+    → Spelt t.line.now (literal_items (words_left t)) (words_left t) → Spelt s.line.now (literal_items (words_left s)) (words_left s)
+spelt_literal s t l h f =
+    let P : List Item → Type 0 = λ is. Spelt s.line.now is (words_left s) in
+    let first = some_literal h.1.0.text in
+    subst P (sym (ap literal_items (behind_one s t a_literal (literal l) h).1)) (spelt s t a_literal first (literal_items (words_left t)) (some s t l h) f)
+
+pub operator_argument : (line t : List ℕ) (s : Span) (r : Option PredicateOperator) → t ≡ bytes_at line s → Reads OperatorWord t r → WordRead an_operator (λ op. word (operator_text op)) line s r
+operator_argument line t s None e h = λ op f. h op (e ∙ f)
+operator_argument line t s (Some op) e h = let g : bytes_at line s ≡ operator_text op = sym e ∙ h in (λ i. g, λ m. m op g)

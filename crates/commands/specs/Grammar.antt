@@ -3,6 +3,7 @@ use Rattle.std.specs.Prelude.{◌≡◌, ℕ, Bool, true, false, cond, ◌⊎◌
 use Rattle.std.specs.Str.{bytes_eq}
 use Rattle.values.specs.declared.kinds.Kind.{Kind}
 use Rattle.values.specs.Contents.{Datum}
+use Rattle.nodes.specs.declared.operators.PredicateOperator.{PredicateOperator}
 use Rattle.reading.specs.Words.{Word, left_open, words}
 use Rattle.reading.specs.Writing.{Natural, KindWord}
 use Rattle.reading.specs.Literals.{Quoted, LiteralWord}
@@ -12,7 +13,7 @@ use Rattle.commands.specs.declared.command.Presence.{Presence}
 use Rattle.commands.specs.declared.command.Malformed.{Malformed}
 use Rattle.commands.specs.declared.command.Fault.{Fault}
 use Rattle.commands.specs.declared.command.Fault.TheVariants as F
-use Rattle.commands.specs.Spelling.{presence_text, ColumnWord, spelling, Spelt}
+use Rattle.commands.specs.Spelling.{presence_text, operator_text, ColumnWord, spelling, Spelt}
 
 -- what a command wants in a place: a word of its own, or an argument of a sort
 pub data Part : Type 0 where
@@ -23,6 +24,7 @@ pub data Part : Type 0 where
   a_name : Part
   a_column : Part
   a_presence : Part
+  an_operator : Part
 
 -- the bytes are not what is wanted
 abbrev pub Misses : Part → List ℕ → Type 0
@@ -33,6 +35,7 @@ Misses (a_number bits) t = (n : ℕ) → Natural bits n t → ⊥
 Misses a_name t = (b : List ℕ) → Quoted b t → ⊥
 Misses a_column t = (c : Column) → ColumnWord c t → ⊥
 Misses a_presence t = (p : Presence) → t ≢ presence_text p
+Misses an_operator t = (op : PredicateOperator) → t ≢ operator_text op
 
 abbrev pub fault_of : Part → Fault
 fault_of (the w) = F.OtherWord
@@ -42,6 +45,7 @@ fault_of (a_number bits) = F.NotANumber
 fault_of a_name = F.NotAName
 fault_of a_column = F.NotAColumn
 fault_of a_presence = F.NotAPresence
+fault_of an_operator = F.NotAnOperator
 
 -- behind `field` and its four words: nothing, or the parent
 abbrev pub parent_parts : List Word → List Part
@@ -56,6 +60,11 @@ cell_parts (w ∷ ws) =
     (cond (bytes_eq w.text (codes "group")) (the (codes "group") ∷ a_number 64 ∷ a_number 64 ∷ [])
     (cond (bytes_eq w.text (codes "list")) (the (codes "list") ∷ [])
     (a_literal ∷ [])))
+
+-- behind `lay`, its column and its operator: literals, as many as there are
+abbrev pub literal_parts : List Word → List Part
+literal_parts [] = []
+literal_parts (w ∷ ws) = a_literal ∷ literal_parts ws
 
 -- these parts behind that word
 abbrev pub behind : List ℕ → List ℕ → List Part → Option (List Part) → Option (List Part)
@@ -74,7 +83,17 @@ wanted t ws =
     (behind t (codes "row") (a_number 64 ∷ [])
     (behind t (codes "cell") (cell_parts ws)
     (behind t (codes "get") (a_name ∷ [])
-    None)))))))))
+    (behind t (codes "always-true") []
+    (behind t (codes "always-false") []
+    (behind t (codes "lay") (a_name ∷ an_operator ∷ literal_parts (drop 2 ws))
+    (behind t (codes "and") (a_number 16 ∷ a_number 16 ∷ [])
+    (behind t (codes "or") (a_number 16 ∷ a_number 16 ∷ [])
+    (behind t (codes "not") (a_number 16 ∷ [])
+    (behind t (codes "negate") (a_number 16 ∷ [])
+    (behind t (codes "rewrite") (a_number 16 ∷ [])
+    (behind t (codes "show") (a_number 16 ∷ [])
+    (behind t (codes "book") []
+    None)))))))))))))))))))
 
 -- that fault at that word
 abbrev pub at_word : Fault → Word → Malformed
@@ -109,10 +128,10 @@ passed_over (w ∷ ws) = slice_index w.text 0 == 35
 -- what a line is read as
 abbrev pub Read : List ℕ → Result (Option Command) Malformed → Type 0
 Read line (Ok None) = passed_over (words line) ≡ true
-Read line (Ok (Some c)) = (passed_over (words line) ≡ false) × Spelt line (spelling c) (words line)
+Read line (Ok (Some c)) = (passed_over (words line) ≡ false) × Spelt line (spelling line c) (words line)
 Read line (Err m) = (passed_over (words line) ≡ false) × FaultyLine (length line) (words line) m
 
 -- no command is refused
 abbrev pub SpellsNone : List ℕ → Result (Option Command) Malformed → Type 0
 SpellsNone line (Ok o) = Unit {0}
-SpellsNone line (Err m) = (c : Command) → Spelt line (spelling c) (words line) → ⊥
+SpellsNone line (Err m) = (c : Command) → Spelt line (spelling line c) (words line) → ⊥

@@ -3,8 +3,10 @@ use Rattle.std.specs.Prelude.{◌≡◌, ℕ, true, false, cond, List, [], ◌�
 use Rattle.values.specs.declared.kinds.Kind.{Kind}
 use Rattle.values.specs.declared.literals.Span.{Span}
 use Rattle.values.specs.declared.literals.Literal.{Literal}
-use Rattle.values.specs.Contents.{bytes_at, inside, text_inside, datum_of}
-use Rattle.reading.specs.Words.{Word, left_open}
+use Rattle.values.specs.Contents.{bytes_at, inside, text_inside, Datum, datum_of}
+use Rattle.nodes.specs.declared.operators.PredicateOperator.{PredicateOperator}
+use Rattle.nodes.specs.declared.operators.PredicateOperator.TheVariants as O
+use Rattle.reading.specs.Words.{Word, left_open, words_from}
 use Rattle.reading.specs.Writing.{Natural, KindWord}
 use Rattle.reading.specs.Literals.{Quoted, LiteralWord}
 use Rattle.commands.specs.declared.command.Command.{Command}
@@ -25,6 +27,8 @@ pub data Item : Type 0 where
   number : ℕ → ℕ → Item
   name : Span → Item
   column : Column → Item
+  -- some literal, by its bytes
+  some_literal : List ℕ → Item
 
 abbrev pub presence_text : Presence → List ℕ
 presence_text P.Required = codes "required"
@@ -40,16 +44,50 @@ cell_items (W.Value l) = literal l ∷ []
 cell_items (W.Group start count) = word (codes "group") ∷ number 64 start ∷ number 64 count ∷ []
 cell_items W.List = word (codes "list") ∷ []
 
-abbrev pub spelling : Command → List Item
-spelling (C.Equal a b) = word (codes "equal") ∷ literal a ∷ literal b ∷ []
-spelling (C.Compare a b) = word (codes "compare") ∷ literal a ∷ literal b ∷ []
-spelling (C.Convert a k) = word (codes "convert") ∷ literal a ∷ word (codes "to") ∷ kind k ∷ []
-spelling (C.Field n s c p parent) = word (codes "field") ∷ number 32 n ∷ name s ∷ column c ∷ word (presence_text p) ∷ parent_items parent
-spelling C.Schema = word (codes "schema") ∷ []
-spelling (C.Find s any) = word (cond any (codes "find-any-case") (codes "find")) ∷ name s ∷ []
-spelling (C.Row top) = word (codes "row") ∷ number 64 top ∷ []
-spelling (C.Cell w) = word (codes "cell") ∷ cell_items w
-spelling (C.Get s) = word (codes "get") ∷ name s ∷ []
+abbrev pub operator_text : PredicateOperator → List ℕ
+operator_text O.IsNull = codes "is-null"
+operator_text O.NotNull = codes "not-null"
+operator_text O.IsNan = codes "is-nan"
+operator_text O.NotNan = codes "not-nan"
+operator_text O.LessThan = codes "<"
+operator_text O.LessThanOrEq = codes "<="
+operator_text O.GreaterThan = codes ">"
+operator_text O.GreaterThanOrEq = codes ">="
+operator_text O.Eq = codes "="
+operator_text O.NotEq = codes "!="
+operator_text O.StartsWith = codes "starts-with"
+operator_text O.NotStartsWith = codes "not-starts-with"
+operator_text O.In = codes "in"
+operator_text O.NotIn = codes "not-in"
+
+abbrev pub OperatorWord : PredicateOperator → List ℕ → Type 0
+OperatorWord op t = t ≡ operator_text op
+
+-- each of the words is a literal
+abbrev pub literal_items : List Word → List Item
+literal_items [] = []
+literal_items (w ∷ ws) = some_literal w.text ∷ literal_items ws
+
+-- in a line, where a condition's literals are the words from a place on
+abbrev pub spelling : List ℕ → Command → List Item
+spelling line (C.Equal a b) = word (codes "equal") ∷ literal a ∷ literal b ∷ []
+spelling line (C.Compare a b) = word (codes "compare") ∷ literal a ∷ literal b ∷ []
+spelling line (C.Convert a k) = word (codes "convert") ∷ literal a ∷ word (codes "to") ∷ kind k ∷ []
+spelling line (C.Field n s c p parent) = word (codes "field") ∷ number 32 n ∷ name s ∷ column c ∷ word (presence_text p) ∷ parent_items parent
+spelling line C.Schema = word (codes "schema") ∷ []
+spelling line (C.Find s any) = word (cond any (codes "find-any-case") (codes "find")) ∷ name s ∷ []
+spelling line (C.Row top) = word (codes "row") ∷ number 64 top ∷ []
+spelling line (C.Cell w) = word (codes "cell") ∷ cell_items w
+spelling line (C.Get s) = word (codes "get") ∷ name s ∷ []
+spelling line (C.Constant value) = word (cond value (codes "always-true") (codes "always-false")) ∷ []
+spelling line (C.Lay s op literals) = word (codes "lay") ∷ name s ∷ word (operator_text op) ∷ literal_items (words_from line literals)
+spelling line (C.And a b) = word (codes "and") ∷ number 16 a ∷ number 16 b ∷ []
+spelling line (C.Or a b) = word (codes "or") ∷ number 16 a ∷ number 16 b ∷ []
+spelling line (C.Not a) = word (codes "not") ∷ number 16 a ∷ []
+spelling line (C.Negate a) = word (codes "negate") ∷ number 16 a ∷ []
+spelling line (C.Rewrite a) = word (codes "rewrite") ∷ number 16 a ∷ []
+spelling line (C.Show a) = word (codes "show") ∷ number 16 a ∷ []
+spelling line C.Book = word (codes "book") ∷ []
 
 -- a column's word: a kind, `struct` or `list`
 abbrev pub ColumnWord : Column → List ℕ → Type 0
@@ -65,6 +103,7 @@ Says line (kind k) t = KindWord k t
 Says line (number bits n) t = Natural bits n t
 Says line (name s) t = Quoted (bytes_at line s) t × (inside (length line) s ≡ true)
 Says line (column c) t = ColumnWord c t
+Says line (some_literal b) t = (t ≡ b) × ((d : Datum) × LiteralWord d t)
 
 -- as many words as items, each without an open quote, and each says its item
 abbrev pub Spelt : List ℕ → List Item → List Word → Type 0

@@ -52,7 +52,7 @@ Done ps items s (Err m) = Faulty (length s.line.now) ps (words_left s) m
 
 -- a command's first word w is followed by its other words
 abbrev pub CommandRead : List ℕ → Word → List Word → Result Command Malformed → Type 0
-CommandRead line w ws (Ok c) = Spelt line (spelling c) (w ∷ ws)
+CommandRead line w ws (Ok c) = Spelt line (spelling line c) (w ∷ ws)
 CommandRead line w ws (Err m) = FaultyBehind (length line) w ws (wanted w.text ws) m
 
 -- behind a command's first word t, wherever it stood, the other words follow

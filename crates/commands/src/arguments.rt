@@ -1,10 +1,12 @@
 // The sorts of arguments that a command takes, each as one word.
 ghost use Rattle.std.specs.Prelude.{◌≡◌};
-ghost use Rattle.commands.specs.Spelling.{Item, word, literal, kind, number, name, column, presence_text};
-ghost use Rattle.commands.specs.Grammar.{Part, a_literal, a_kind, a_number, a_name, a_column, a_presence, fault_of};
+ghost use Rattle.commands.specs.Spelling.{Item, word, literal, kind, number, name, column, presence_text, operator_text};
+ghost use Rattle.commands.specs.Grammar.{Part, a_literal, a_kind, a_number, a_name, a_column, a_presence, an_operator, fault_of};
 ghost use Rattle.commands.specs.Steps.{WordRead};
 
 use crate::command::{Column, Fault, Presence};
+use crate::operators::read_operator;
+use nodes::operators::PredicateOperator;
 use reading::kinds::read_kind;
 use reading::literals::{read_literal, read_text};
 use reading::numbers::Number;
@@ -54,7 +56,21 @@ impl Argument for Kind {
     }
 }
 
-// Two impls, since one for each Number would overlap the others.
+// Three impls, since one for each Number would overlap the others.
+impl Argument for u16 {
+    ghost part = { a_number 16 };
+
+    ghost item = { number 16 };
+
+    fn fault() -> Fault {
+        Fault::NotANumber
+    }
+
+    fn read(word: Word) -> Option<u16> {
+        Number::read(word.text())
+    }
+}
+
 impl Argument for u32 {
     ghost part = { a_number 32 };
 
@@ -131,5 +147,19 @@ impl Argument for Presence {
             b"optional" => Some(Presence::Optional),
             _ => None,
         }
+    }
+}
+
+impl Argument for PredicateOperator {
+    ghost part = { an_operator };
+
+    ghost item = { λ op. word (operator_text op) };
+
+    fn fault() -> Fault {
+        Fault::NotAnOperator
+    }
+
+    fn read(word: Word) -> Option<PredicateOperator> {
+        read_operator(word.text())
     }
 }

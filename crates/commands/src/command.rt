@@ -1,5 +1,7 @@
 // What a line of the console asks for, and why it asks for nothing.
+use nodes::operators::PredicateOperator;
 use reading::words::Word;
+use std::fmt;
 use values::kinds::Kind;
 use values::literals::{Literal, Span};
 
@@ -29,6 +31,23 @@ pub enum Command {
     Get {
         name: Span,
     },
+    // the filter that is always true, or always false
+    Constant(bool),
+    // a condition on a column
+    Lay {
+        name: Span,
+        operator: PredicateOperator,
+        // where its literals begin in the line; all words from there on are literals
+        literals: usize,
+    },
+    // the filters by their numbers
+    And(u16, u16),
+    Or(u16, u16),
+    Not(u16),
+    Negate(u16),
+    Rewrite(u16),
+    Show(u16),
+    Book,
 }
 
 // What a field holds.
@@ -75,6 +94,7 @@ pub enum Fault {
     NotAName,
     NotAColumn,
     NotAPresence,
+    NotAnOperator,
 }
 
 impl Fault {
@@ -90,5 +110,25 @@ impl Fault {
             what: self,
             at: word.place.start,
         }
+    }
+}
+
+// What is wrong, in plain words.
+impl fmt::Display for Fault {
+    fn fmt<W: fmt::Write>(&self, f: &mut fmt::Formatter<W>) -> fmt::Result {
+        f.write_str(match self {
+            Fault::OpenQuote => "a quote is left open",
+            Fault::UnknownCommand => "there is no such command",
+            Fault::MissingWord => "a word is missing",
+            Fault::ExtraWord => "there is a word too many",
+            Fault::OtherWord => "the command has another word here",
+            Fault::NotALiteral => "a literal was expected, as long:900 or string:glass",
+            Fault::NotAKind => "a kind was expected, as long or fixed(2)",
+            Fault::NotANumber => "a number was expected, in decimal without leading zeros",
+            Fault::NotAName => "a name was expected",
+            Fault::NotAColumn => "a kind, struct or list was expected",
+            Fault::NotAPresence => "required or optional was expected",
+            Fault::NotAnOperator => "an operator was expected, as <= or is-null",
+        })
     }
 }

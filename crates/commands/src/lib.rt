@@ -2,6 +2,7 @@
 #![tactic(auto)]
 
 pub mod command;
+pub mod operators;
 
 pub use lines::parse;
 

@@ -1,12 +1,13 @@
 // A line as a command.
 ghost use Rattle.std.specs.Prelude.{◌≡◌, false, codes, ◌==◌, slice_index};
 ghost use Rattle.reading.specs.NextWord.{word_of, words_left};
-ghost use Rattle.commands.specs.Spelling.{parent_items, cell_items};
-ghost use Rattle.commands.specs.Grammar.{parent_parts, cell_parts, open_quote, Read, SpellsNone};
+ghost use Rattle.commands.specs.Spelling.{parent_items, cell_items, literal_items};
+ghost use Rattle.commands.specs.Grammar.{parent_parts, cell_parts, literal_parts, open_quote, Read, SpellsNone};
 ghost use Rattle.commands.specs.Steps.{Done, CommandRead, Follows};
 
 use crate::command::{CellWord, Column, Command, Fault, Malformed, Presence};
 use crate::reader::Reader;
+use nodes::operators::PredicateOperator;
 use reading::words::{Word, Words, as_str};
 use values::kinds::Kind;
 use values::literals::{Literal, Span};
@@ -64,6 +65,29 @@ fn cell(reader: Reader) -> Result<CellWord, Malformed>
     }
 }
 
+// That only literals are left.
+fn literals(mut reader: Reader) -> Result<(), Malformed>
+    ensures takes_literals_alone { Done (literal_parts (words_left reader.entry.words)) (λ u. literal_items (words_left reader.entry.words)) reader.entry.words result }
+{
+    while !reader.is_done() {
+        reader.take::<Literal>()?;
+    }
+    Ok(())
+}
+
+fn lay(mut reader: Reader) -> Result<Command, Malformed>
+    ensures takes_a_condition { Follows (codes "lay") reader.entry.words result }
+{
+    let name = reader.take::<Span>()?;
+    let operator = reader.take::<PredicateOperator>()?;
+    literals(reader)?;
+    Ok(Command::Lay {
+        name,
+        operator,
+        literals: reader.words.at,
+    })
+}
+
 // The command that begins with the first word, and goes on with the others.
 fn command(first: Word, others: Reader) -> Result<Command, Malformed>
     ensures goes_by_the_first_word { open_quote (word_of first.entry) ≡ false → CommandRead others.entry.words.line.now (word_of first.entry) (words_left others.entry.words) result }
@@ -89,6 +113,16 @@ fn command(first: Word, others: Reader) -> Result<Command, Malformed>
         "row" => others.last::<usize>().map(|top| Command::Row { top }),
         "cell" => cell(others).map(Command::Cell),
         "get" => others.last::<Span>().map(|name| Command::Get { name }),
+        "always-true" => others.end().map(|()| Command::Constant(true)),
+        "always-false" => others.end().map(|()| Command::Constant(false)),
+        "lay" => lay(others),
+        "and" => others.two::<u16, u16>().map(|(a, b)| Command::And(a, b)),
+        "or" => others.two::<u16, u16>().map(|(a, b)| Command::Or(a, b)),
+        "not" => others.last::<u16>().map(Command::Not),
+        "negate" => others.last::<u16>().map(Command::Negate),
+        "rewrite" => others.last::<u16>().map(Command::Rewrite),
+        "show" => others.last::<u16>().map(Command::Show),
+        "book" => others.end().map(|()| Command::Book),
         _ => Err(Fault::UnknownCommand.at(first)),
     }
 }

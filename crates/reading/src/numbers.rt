@@ -24,6 +24,14 @@ pub trait Number: FromStr<Err = ParseIntError> {
     ghost is_read: { (t : List ℕ) (o : Option Self) → plain t ≡ true → Parsed Self.from_str_gives t o → Reads written t o };
 }
 
+impl Number for u16 {
+    ghost written = { Natural 16 };
+
+    ghost is_plain = { natural_is_plain 16 refl };
+
+    ghost is_read = { natural_is_read 16 refl };
+}
+
 impl Number for u32 {
     ghost written = { Natural 32 };
 

@@ -28,6 +28,11 @@ returns-in-field c =
     let name = named (goal.at.returns-in-field c).After-unwrap_or _ _ c.in-field.is in
     record { goes_by_the_first_word = λ o. dispatched c.args.others.words (bytes_at c.args.first.line.now c.args.first.place) (codes "field") c.args.first.place.start c.field.result name c.field.ensures.takes_four_and_the_parent }
 
+pub returns-in-lay : goal.returns-in-lay
+returns-in-lay c =
+    let name = named (goal.at.returns-in-lay c).After-unwrap_or _ _ c.in-lay.is in
+    record { goes_by_the_first_word = λ o. dispatched c.args.others.words (bytes_at c.args.first.line.now c.args.first.place) (codes "lay") c.args.first.place.start c.lay.result name c.lay.ensures.takes_a_condition }
+
 pub returns-in_default : goal.returns-in_default
 returns-in_default c =
     let at = (goal.at.returns-in_default c).After-unwrap_or in
@@ -45,5 +50,15 @@ returns-in_default c =
           (unnamed at (codes "find-any-case") refl other.not-text)
           (unnamed at (codes "row") refl other.not-row)
           (unnamed at (codes "cell") refl other.not-cell)
-          (unnamed at (codes "get") refl other.not-get));
+          (unnamed at (codes "get") refl other.not-get)
+          (unnamed at (codes "always-true") refl other.not-text-2)
+          (unnamed at (codes "always-false") refl other.not-text-3)
+          (unnamed at (codes "lay") refl other.not-lay)
+          (unnamed at (codes "and") refl other.not-and)
+          (unnamed at (codes "or") refl other.not-or)
+          (unnamed at (codes "not") refl other.not-not)
+          (unnamed at (codes "negate") refl other.not-negate)
+          (unnamed at (codes "rewrite") refl other.not-rewrite)
+          (unnamed at (codes "show") refl other.not-show)
+          (unnamed at (codes "book") refl other.not-book));
     }
