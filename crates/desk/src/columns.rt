@@ -1,6 +1,7 @@
 // The schema that is being typed, and what is found in it.
 use crate::failure::Failure;
-use crate::row::{RowSheet, keep};
+use crate::kept::keep;
+use crate::row::RowSheet;
 use commands::command::Column;
 use comparison::data::Datum;
 use comparison::text::Text;

@@ -1,14 +1,16 @@
 // One line after another: read, called, and answered in plain words.
 use crate::columns::{Columns, shape_of};
 use crate::failure::Failure;
+use crate::laid::Filters;
 use crate::row::RowSheet;
-use crate::show::{advice, complaint};
+use crate::show::advice;
 use crate::tally::Outcome;
 use crate::weigh;
 use commands::command::{Command, Malformed, Presence};
 use commands::parse;
+use reading::words::Words;
 use schema::fields::Field;
-use std::alloc::Global;
+use std::alloc::{AllocError, Global};
 use std::io;
 use values::literals::Span;
 
@@ -17,14 +19,16 @@ use values::literals::Span;
 pub struct Desk {
     columns: Columns,
     row: RowSheet,
+    filters: Filters,
 }
 
 impl Desk {
-    pub fn new(heap: Global) -> Desk {
-        Desk {
+    pub fn new(heap: Global) -> Result<Desk, AllocError> {
+        Ok(Desk {
             columns: Columns::new(heap),
             row: RowSheet::new(heap),
-        }
+            filters: Filters::new(heap)?,
+        })
     }
 
     // Does what the line says; nothing where it is blank or a comment.
@@ -41,8 +45,7 @@ impl Desk {
         match self.answer(rt, command, line.as_bytes()) {
             Ok(()) => Ok(Some(Outcome::Granted)),
             Err(Failure::Malformed(Malformed { what, at })) => {
-                let words = complaint(what);
-                println!(rt; "   not understood, line {number}, byte {at}: {words}")?;
+                println!(rt; "   not understood, line {number}, byte {at}: {what}")?;
                 Ok(Some(Outcome::NotUnderstood))
             }
             Err(Failure::Refused(refused)) => {
@@ -85,6 +88,22 @@ impl Desk {
             Command::Row { top } => self.row.begin(rt, top),
             Command::Cell(word) => self.row.add(rt, word, line),
             Command::Get { name } => self.columns.get(rt, &self.row, name.of(line)),
+            Command::Constant(value) => self.filters.lay_constant(rt, value),
+            Command::Lay {
+                name,
+                operator,
+                literals,
+            } => {
+                let given = Words { line, at: literals };
+                self.filters.lay(rt, name.of(line), operator, given)
+            }
+            Command::And(a, b) => self.filters.and(rt, a, b),
+            Command::Or(a, b) => self.filters.or(rt, a, b),
+            Command::Not(a) => self.filters.not(rt, a),
+            Command::Negate(a) => self.filters.negate(rt, a),
+            Command::Rewrite(a) => self.filters.rewrite(rt, a),
+            Command::Show(a) => self.filters.show(rt, a),
+            Command::Book => self.filters.list(rt),
         }
     }
 }

@@ -1,35 +1,18 @@
 // The row that is being typed: its cells, and the text that they name places of.
 use crate::failure::Failure;
+use crate::kept::keep_literal;
 use commands::command::CellWord;
 use comparison::data::Datum;
 use rows::cell_row::CellRow;
 use rows::cells::Cell;
-use std::alloc::{AllocError, Global};
+use std::alloc::Global;
 use std::io;
-use values::literals::{Literal, Span, Value};
 
 #[derive(Drop)]
 pub struct RowSheet {
     cells: Vec<Cell>,
     text: Vec<u8>,
     top: usize,
-}
-
-// Copies the bytes behind a text, and says where they lie there.
-pub fn keep(text: &mut Vec<u8>, bytes: &[u8]) -> Result<Span, AllocError> {
-    let start = text.len();
-    let len = bytes.len();
-    text.extend_from_slice(bytes)?;
-    Ok(Span { start, len })
-}
-
-// The value with its text copied behind another.
-fn keep_value(text: &mut Vec<u8>, value: Value, line: &[u8]) -> Result<Value, AllocError> {
-    match value {
-        Value::String(span) => Ok(Value::String(keep(text, span.of(line))?)),
-        Value::Binary(span) => Ok(Value::Binary(keep(text, span.of(line))?)),
-        other => Ok(other),
-    }
 }
 
 fn say(rt: &HostRuntime, word: CellWord, line: &[u8], place: usize) -> io::Result<()> {
@@ -69,11 +52,9 @@ impl RowSheet {
         let place = self.cells.len();
         let cell = match word {
             CellWord::Null => Cell::Null,
-            CellWord::Value(Literal { value, .. }) => Cell::Value(keep_value(
-                &mut self.text,
-                value,
-                line,
-            )?),
+            CellWord::Value(literal) => {
+                Cell::Value(keep_literal(&mut self.text, literal, line)?.value)
+            }
             CellWord::Group { start, count } => Cell::Group { start, count },
             CellWord::List => Cell::ListOrMap,
         };

@@ -1,5 +1,4 @@
-// Refusals and faults in plain words.
-use commands::command::Fault;
+// Refusals in plain words.
 use values::refusals::Reason;
 
 // What is wrong, and what to correct.
@@ -33,22 +32,5 @@ pub fn advice(reason: Reason) -> &'static str {
         Reason::OutsideRow => "a group or a text lies outside the row; mend the row",
         Reason::NotMet => "the filter still holds a Not; rewrite it first",
         Reason::VisitorFault { .. } => "the visitor gave up with a fault of its own",
-    }
-}
-
-// What is wrong with a line that is no command.
-pub fn complaint(fault: Fault) -> &'static str {
-    match fault {
-        Fault::OpenQuote => "a quote is left open",
-        Fault::UnknownCommand => "there is no such command",
-        Fault::MissingWord => "a word is missing",
-        Fault::ExtraWord => "there is a word too many",
-        Fault::OtherWord => "the command has another word here",
-        Fault::NotALiteral => "a literal was expected, as long:900 or string:glass",
-        Fault::NotAKind => "a kind was expected, as long or fixed(2)",
-        Fault::NotANumber => "a number was expected, in decimal without leading zeros",
-        Fault::NotAName => "a name was expected",
-        Fault::NotAColumn => "a kind, struct or list was expected",
-        Fault::NotAPresence => "required or optional was expected",
     }
 }
