@@ -37,6 +37,14 @@ pub struct Tree<'a> {
     number: u16,
 }
 
+fn join_word(node: Node<Span>) -> &'static str {
+    if matches!(node, Node::And(..)) {
+        "and"
+    } else {
+        "or"
+    }
+}
+
 impl<'a> Nodes<'a> {
     pub fn node(self, node: Node<Span>) -> Single<'a> {
         Single { nodes: self, node }
@@ -103,14 +111,10 @@ impl<'a> Nodes<'a> {
         }
         write!(f, "#{number} ")?;
         match node {
-            Node::And(l, r) if l < number && r < number => {
+            Node::And(l, r) | Node::Or(l, r) if l < number && r < number => {
+                let word = join_word(node);
                 self.write_filter(f, l, true)?;
-                f.write_str("\nand ")?;
-                self.write_filter(f, r, true)?;
-            }
-            Node::Or(l, r) if l < number && r < number => {
-                self.write_filter(f, l, true)?;
-                f.write_str("\nor ")?;
+                write!(f, "\n{word} ")?;
                 self.write_filter(f, r, true)?;
             }
             Node::Not(x) if x < number => {
@@ -141,15 +145,11 @@ impl<'a> Nodes<'a> {
         }
         write!(f, "#{number} ")?;
         let further = indent.saturating_add(3);
-        match self.at(number) {
-            Node::And(l, r) if l < number && r < number => {
-                f.write_str("and\n")?;
-                self.write_tree(f, l, further)?;
-                f.write_str("\n")?;
-                self.write_tree(f, r, further)
-            }
-            Node::Or(l, r) if l < number && r < number => {
-                f.write_str("or\n")?;
+        let node = self.at(number);
+        match node {
+            Node::And(l, r) | Node::Or(l, r) if l < number && r < number => {
+                let word = join_word(node);
+                writeln!(f, "{word}")?;
                 self.write_tree(f, l, further)?;
                 f.write_str("\n")?;
                 self.write_tree(f, r, further)
@@ -172,8 +172,10 @@ impl fmt::Display for Single<'_> {
         match self.node {
             Node::AlwaysTrue => f.write_str("always-true"),
             Node::AlwaysFalse => f.write_str("always-false"),
-            Node::And(l, r) => write!(f, "#{l} and #{r}"),
-            Node::Or(l, r) => write!(f, "#{l} or #{r}"),
+            Node::And(l, r) | Node::Or(l, r) => {
+                let word = join_word(self.node);
+                write!(f, "#{l} {word} #{r}")
+            }
             Node::Not(x) => write!(f, "not #{x}"),
             Node::Unary(operator, name) => nodes.write_test(f, operator, name),
             Node::Binary(operator, name, literal) => {
