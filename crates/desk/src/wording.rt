@@ -213,17 +213,20 @@ impl fmt::Display for Tree<'_> {
 
 // Prints the filter behind a word; what would pass column 80 goes to the lines after, further in.
 pub fn say(rt: &HostRuntime, word: &str, filter: Filter) -> Result<(), Failure> {
-    let row = format!(in rt.alloc(); "{filter}")?;
-    print!(rt; "   {word}")?;
-    let mut column = word.len().saturating_add(3);
+    let row = format!(in rt.alloc(); "   {word} {filter}")?;
+    let mut column: usize = 0;
     for part in row.as_str().split('\n') {
-        let width = part.len().saturating_add(1);
-        column = column.saturating_add(width);
-        if column > 80 {
-            print!(rt; "\n     ")?;
-            column = width.saturating_add(5);
+        let end = column.saturating_add(1).saturating_add(part.len());
+        if column == 0 {
+            print!(rt; "{part}")?;
+            column = part.len();
+        } else if end > 80 {
+            print!(rt; "\n      {part}")?;
+            column = part.len().saturating_add(6);
+        } else {
+            print!(rt; " {part}")?;
+            column = end;
         }
-        print!(rt; " {part}")?;
     }
     println!(rt; "")?;
     Ok(())
