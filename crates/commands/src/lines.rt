@@ -54,6 +54,7 @@ fn cell(reader: Reader) -> Result<CellWord, Malformed>
 {
     let mut behind = reader;
     let word = behind.word()?;
+    // bytes that are no text are no word of these; of an `Option` of text the last arm would not prove
     match as_str(word.text()).unwrap_or("") {
         "null" => behind.end().map(|()| CellWord::Null),
         "group" => {
@@ -92,6 +93,7 @@ fn lay(mut reader: Reader) -> Result<Command, Malformed>
 fn command(first: Word, others: Reader) -> Result<Command, Malformed>
     ensures goes_by_the_first_word { open_quote (word_of first.entry) ≡ false → CommandRead others.entry.words.line.now (word_of first.entry) (words_left others.entry.words) result }
 {
+    // as in `cell`
     match as_str(first.text()).unwrap_or("") {
         "equal" => others
             .two::<Literal, Literal>()

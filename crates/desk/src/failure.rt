@@ -36,6 +36,7 @@ impl From<io::Error> for Failure {
     }
 }
 
+// Want of memory has two types, as a call hands back what it was to store or not.
 impl<T: Drop> From<AllocFailed<T>> for Failure {
     fn from(failed: AllocFailed<T>) -> Failure {
         Failure::Io(io::Error::from(failed))

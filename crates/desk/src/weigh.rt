@@ -13,7 +13,7 @@ pub fn equal(rt: &HostRuntime, a: Literal, b: Literal, line: &[u8]) -> Result<()
     } else {
         "does not equal"
     };
-    say_both(rt, a, stands, b, line)
+    say_both(rt, &Datum::new(a, line), stands, &Datum::new(b, line))
 }
 
 pub fn compare(rt: &HostRuntime, a: Literal, b: Literal, line: &[u8]) -> Result<(), Failure> {
@@ -23,19 +23,11 @@ pub fn compare(rt: &HostRuntime, a: Literal, b: Literal, line: &[u8]) -> Result<
         Some(Ordering::Greater) => "comes after",
         None => "does not compare with",
     };
-    say_both(rt, a, stands, b, line)
+    say_both(rt, &Datum::new(a, line), stands, &Datum::new(b, line))
 }
 
-fn say_both(
-    rt: &HostRuntime,
-    a: Literal,
-    stands: &str,
-    b: Literal,
-    line: &[u8],
-) -> Result<(), Failure> {
-    let first = Datum::new(a, line);
-    let second = Datum::new(b, line);
-    println!(rt; "   {first} {stands} {second}")?;
+fn say_both(rt: &HostRuntime, a: &Datum, stands: &str, b: &Datum) -> Result<(), Failure> {
+    println!(rt; "   {a} {stands} {b}")?;
     Ok(())
 }
 
