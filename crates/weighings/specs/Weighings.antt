@@ -1,5 +1,5 @@
--- Worked examples of values, each by the definitions alone.
-use Rattle.std.specs.Prelude.{◌≡◌, Bool, true, false, [], ◌∷◌, pos, negsuc, Some, None, Ok, Err, Float}
+-- Worked examples of values and of filters, each by the definitions alone.
+use Rattle.std.specs.Prelude.{◌≡◌, ℕ, Bool, true, false, List, [], ◌∷◌, pos, negsuc, Some, None, Ok, Err, Float}
 use Rattle.std.specs.declared.cmp.Ordering.TheVariants.{Less, Equal, Greater}
 use Rattle.std.specs.Float.{nan, fin, binary64}
 use Rattle.floats.specs.Patterns.{rank}
@@ -10,6 +10,9 @@ use Rattle.comparison.specs.Orders.{compared}
 use Rattle.comparison.specs.Equality.{same_content}
 use Rattle.conversion.specs.declared.convert.Misfit.TheVariants.{NotConvertible, TextNotRead}
 use Rattle.conversion.specs.Table.{converted}
+use Rattle.filters.specs.Trees.{Tree, constant, condition, And, Or, Not, negated, rewritten}
+use Rattle.nodes.specs.declared.operators.PredicateOperator.TheVariants as O
+use Rattle.nodes.specs.Conditions.{Condition, binary, opposite}
 
 abbrev pub of : Kind → Content → Datum
 of k c = record { kind = k; content = c }
@@ -23,6 +26,10 @@ zero s = fin s 0 (pos 0)
 -- 5 as a double is 5 * 2 ^ 0
 abbrev pub five : Float
 five = fin false 5 (pos 0)
+
+-- a condition on a column by its number, against a literal and sets of literals by theirs
+abbrev pub Test : Type 0
+Test = Condition ℕ ℕ (List ℕ)
 
 pub record Weighings : Type 0 where
   -- long 2147483647 to int stays
@@ -48,3 +55,7 @@ pub record Weighings : Type 0 where
   -- a shorter prefix comes first; values of two kinds do not compare
   pub prefix_first : compared (of K.String (bytes string (97 ∷ []))) (of K.String (bytes string (97 ∷ 98 ∷ []))) ≡ Some Less
   pub kinds_apart : compared (of K.Int (number int (pos 5))) (of K.Date (number int (pos 5))) ≡ None
+  -- the negation of (not a) and v < 5 is a or v >= 5
+  pub negated_join : (a : Tree Test) (v literal : ℕ) → negated opposite (And (Not a) (condition (binary O.LessThan v literal))) ≡ Or a (condition (binary O.GreaterThanOrEq v literal))
+  -- the rewriting of (not AlwaysTrue) and a is AlwaysFalse
+  pub rewritten_to_false : (a : Test) → rewritten true opposite (And (Not (constant true)) (condition a)) ≡ constant false

@@ -21,5 +21,7 @@ returns c =
         text_refused = refl;
         prefix_first = refl;
         kinds_apart = refl;
+        negated_join = λ a v literal. refl;
+        rewritten_to_false = λ a. refl;
       };
     }
