@@ -2,6 +2,7 @@
 use Rattle.std.specs.Prelude.{ℕ, ◌+◌, Bool, List, take, drop, nat_le}
 use Rattle.values.specs.declared.kinds.Kind.{Kind}
 use Rattle.nodes.specs.declared.slots.Run.{Run}
+use Rattle.nodes.specs.declared.term.Extent.{Extent}
 use Rattle.columns.specs.declared.column.Column.{Column}
 
 -- the cells of a run of a table: fewer than its count where it passes the table's end
@@ -11,6 +12,10 @@ cells_at xs r = take r.count (drop r.start xs)
 -- the run ends within a table of n cells
 abbrev pub ends_within : ℕ → Run → Bool
 ends_within n r = nat_le (r.start + r.count) n
+
+-- a bound column lies within its tables if its places do
+abbrev pub within : Extent → Column → Bool
+within e c = ends_within e.places c.places
 
 -- a field, the places that lead to it from the top, the kind that it is read under, and whether no row may leave it out
 pub record Bound : Type 0 where

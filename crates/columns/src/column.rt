@@ -1,6 +1,6 @@
 // A bound column: a field with its accessor, whose places lie in a table that is lent beside it.
 ghost use Rattle.std.specs.Prelude.{◌≡◌};
-ghost use Rattle.columns.specs.Bound.{bound_of, ends_within};
+ghost use Rattle.columns.specs.Bound.{bound_of, within as within_tables};
 
 use crate::runs::cells;
 use nodes::slots::Run;
@@ -27,9 +27,9 @@ impl Column {
     }
 }
 
-// A bound column lies within its tables if its places do.
+// It lies within its tables if its places do.
 impl Term for Column {
-    ghost within = { λ extent column. ends_within extent.places column.places };
+    ghost within = { within_tables };
 
     fn lies_within(self, extent: Extent) -> bool {
         self.places.start as usize + self.places.count as usize <= extent.places

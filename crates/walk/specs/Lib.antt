@@ -1,0 +1,4 @@
+pub mod Faults
+pub mod Tests
+pub mod Steps
+pub mod Visits
