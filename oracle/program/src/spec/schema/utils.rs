@@ -1,0 +1,1 @@
+//! Stand-in for helpers, none of which is used.

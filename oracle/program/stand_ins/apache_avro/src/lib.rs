@@ -1,0 +1,10 @@
+#[derive(Debug)]
+pub struct Error;
+
+impl std::fmt::Display for Error {
+    fn fmt(&self, f: &mut std::fmt::Formatter) -> std::fmt::Result {
+        f.write_str("an error of apache_avro")
+    }
+}
+
+impl std::error::Error for Error {}
