@@ -12,7 +12,7 @@ work=$(cd "$2" && pwd)
 # third-party crates: Debian's packages, unpacked into WORK and not installed
 if [ ! -e "$work/unpacked" ]; then
     mkdir -p "$work/packages" "$work/root"
-    (cd "$work/packages" && xargs apt-get download -qq <"$here/packages.txt")
+    (cd "$work/packages" && xargs apt-get download -qq -o APT::Sandbox::User=root <"$here/packages.txt")
     for package in "$work"/packages/*.deb; do dpkg -x "$package" "$work/root"; done
     # a call that the genuine error.rs makes and a later chrono has
     datetime=$(echo "$work"/root/usr/share/cargo/registry/chrono-0.4*/src/naive/datetime/mod.rs)

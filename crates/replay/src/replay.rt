@@ -32,6 +32,11 @@ impl Replay {
             "filter" => trees::built(&mut self.bench, words),
             "find" => columns::found(self.heap, words),
             "read" => columns::read(self.heap, words),
+            // a filter on a cell's value: of these only what is refused when laid is there yet
+            "evaluate" => {
+                let (_, calls) = words.split_once(' ').ok_or(Failure::NotACase)?;
+                trees::built(&mut self.bench, calls)
+            }
             _ => Err(Failure::NotACase),
         }
     }

@@ -51,6 +51,7 @@ pub fn answer(case: &str) -> String {
         "filter" => printed(&built(words)),
         "find" => differences::found(words),
         "read" => differences::read(words),
+        "evaluate" => differences::evaluated(words),
         _ => panic!("no such sort"),
     });
     catch_unwind(answer).unwrap_or_else(|panic| {

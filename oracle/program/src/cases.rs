@@ -32,7 +32,15 @@ const KINDS: [&str; 16] = [
 fn boundary_contents(storage: &str) -> &'static [&'static str] {
     match storage {
         "boolean" => &["false", "true"],
-        "int" => &["-2147483648", "-2147483647", "-1", "0", "1", "2147483646", "2147483647"],
+        "int" => &[
+            "-2147483648",
+            "-2147483647",
+            "-1",
+            "0",
+            "1",
+            "2147483646",
+            "2147483647",
+        ],
         "long" => &[
             "-9223372036854775808",
             "-2147483649",
@@ -50,8 +58,8 @@ fn boundary_contents(storage: &str) -> &'static [&'static str] {
         ],
         // -inf, the numbers of greatest size, -1, the least normal and the least of all numbers, the zeros, not-a-number
         "float" => &[
-            "ff800000", "ff7fffff", "bf800000", "80800000", "80000001", "80000000", "00000000", "00000001",
-            "00800000", "3f800000", "7f7fffff", "7f800000", "7fc00000",
+            "ff800000", "ff7fffff", "bf800000", "80800000", "80000001", "80000000", "00000000",
+            "00000001", "00800000", "3f800000", "7f7fffff", "7f800000", "7fc00000",
         ],
         "double" => &[
             "fff0000000000000",
@@ -82,7 +90,10 @@ fn boundary_contents(storage: &str) -> &'static [&'static str] {
             "f48fbfbf",
             "313730313431313833343630343639323331373331363837333033373135383834313035373238",
         ],
-        _ => &["", "00", "0000", "0001", "000102", "01", "7f", "7fff", "80", "8000", "ff", "ffff", "ffffff"],
+        _ => &[
+            "", "00", "0000", "0001", "000102", "01", "7f", "7fff", "80", "8000", "ff", "ffff",
+            "ffffff",
+        ],
     }
 }
 
@@ -97,8 +108,12 @@ fn of_length(content: &str, kind: &PrimitiveType) -> bool {
 fn own(kind_word: &str) -> Vec<Datum> {
     let kind = kind(kind_word);
     let storage = storage_of(&kind);
-    let contents = boundary_contents(storage).iter().filter(|content| of_length(content, &kind));
-    contents.map(|content| Datum::new(kind.clone(), value(storage, content))).collect()
+    let contents = boundary_contents(storage)
+        .iter()
+        .filter(|content| of_length(content, &kind));
+    contents
+        .map(|content| Datum::new(kind.clone(), value(storage, content)))
+        .collect()
 }
 
 /// Some of them, from the one end to the other.
@@ -111,17 +126,23 @@ fn some_own(kind: &str) -> Vec<Datum> {
 }
 
 fn extremes(kind_word: &str) -> [Datum; 2] {
-    [PrimitiveLiteral::AboveMax, PrimitiveLiteral::BelowMin].map(|value| Datum::new(kind(kind_word), value))
+    [PrimitiveLiteral::AboveMax, PrimitiveLiteral::BelowMin]
+        .map(|value| Datum::new(kind(kind_word), value))
 }
 
 /// Literals under the kind in the other storages, at each storage's boundaries in turn.
 fn foreign(kind_word: &str, turn: usize) -> Vec<Datum> {
     let kind = kind(kind_word);
-    let others = STORAGES.iter().filter(|storage| **storage != storage_of(&kind));
+    let others = STORAGES
+        .iter()
+        .filter(|storage| **storage != storage_of(&kind));
     others
         .map(|storage| {
             let contents = boundary_contents(storage);
-            Datum::new(kind.clone(), value(storage, contents[turn % contents.len()]))
+            Datum::new(
+                kind.clone(),
+                value(storage, contents[turn % contents.len()]),
+            )
         })
         .collect()
 }
@@ -149,14 +170,21 @@ fn convert(literal: &Datum, to: &PrimitiveType, take: Take) -> Result<bool> {
         return Ok(false);
     }
     let rule = rule_of_converting(literal, to);
-    take(format!("convert/{rule} {} {}", literal_word(literal), kind_word(to)))?;
+    take(format!(
+        "convert/{rule} {} {}",
+        literal_word(literal),
+        kind_word(to)
+    ))?;
     Ok(true)
 }
 
 /// The rule of comparison that the case is for.
 fn rule_of_comparing(first: &Datum, second: &Datum) -> &'static str {
     let (kind, other) = (first.data_type(), second.data_type());
-    let fixeds = matches!((kind, other), (PrimitiveType::Fixed(_), PrimitiveType::Fixed(_)));
+    let fixeds = matches!(
+        (kind, other),
+        (PrimitiveType::Fixed(_), PrimitiveType::Fixed(_))
+    );
     if storage(first.literal()).is_none() || storage(second.literal()).is_none() {
         "extremes"
     } else if kind != other && !fixeds {
@@ -176,7 +204,11 @@ fn compare(first: &Datum, second: &Datum, take: Take) -> Result<bool> {
         return Ok(false);
     }
     let rule = rule_of_comparing(first, second);
-    take(format!("compare/{rule} {} {}", literal_word(first), literal_word(second)))?;
+    take(format!(
+        "compare/{rule} {} {}",
+        literal_word(first),
+        literal_word(second)
+    ))?;
     Ok(true)
 }
 
@@ -206,8 +238,15 @@ fn conversions_at_boundaries(take: Take) -> Result<()> {
 
 fn comparisons_at_boundaries(take: Take) -> Result<()> {
     for (turn, kind_word) in KINDS.into_iter().enumerate() {
-        let all = matches!(kind_word, "int" | "long" | "float" | "double" | "string" | "binary");
-        let literals = if all { own(kind_word) } else { some_own(kind_word) };
+        let all = matches!(
+            kind_word,
+            "int" | "long" | "float" | "double" | "string" | "binary"
+        );
+        let literals = if all {
+            own(kind_word)
+        } else {
+            some_own(kind_word)
+        };
         for first in &literals {
             for second in &literals {
                 compare(first, second, take)?;
@@ -233,11 +272,18 @@ fn comparisons_at_boundaries(take: Take) -> Result<()> {
         }
     }
     // fixeds of two lengths, and of lengths that their bytes have not
-    let fixeds: Vec<Datum> = ["fixed(0)", "fixed(2)", "fixed(3)"].into_iter().flat_map(own).collect();
+    let fixeds: Vec<Datum> = ["fixed(0)", "fixed(2)", "fixed(3)"]
+        .into_iter()
+        .flat_map(own)
+        .collect();
     for first in &fixeds {
         for second in &fixeds {
             compare(first, second, take)?;
-            compare(first, &Datum::new(kind("fixed(3)"), second.literal().clone()), take)?;
+            compare(
+                first,
+                &Datum::new(kind("fixed(3)"), second.literal().clone()),
+                take,
+            )?;
         }
     }
     Ok(())
@@ -286,7 +332,10 @@ fn set(operator: &str, name: &str, literals: &[Datum]) -> String {
 fn without_differences(literals: Vec<Datum>) -> Vec<Datum> {
     let mut kept: Vec<Datum> = Vec::new();
     for literal in literals {
-        if !kept.iter().any(|earlier| is_left_out_of_comparing(earlier, &literal)) {
+        if !kept
+            .iter()
+            .any(|earlier| is_left_out_of_comparing(earlier, &literal))
+        {
             kept.push(literal);
         }
     }
@@ -299,37 +348,72 @@ fn sets_at_boundaries(take: Take) -> Result<()> {
         let first = literals[0].clone();
         let repeats: Vec<Datum> = [&literals[..], &literals[..]].concat();
         take(format!("filter/sets {}", set("in", "v", &[])))?;
-        take(format!("filter/sets {}", set("in", "v", std::slice::from_ref(&first))))?;
-        take(format!("filter/sets {}", set("not-in", "v", &[first.clone(), first])))?;
+        take(format!(
+            "filter/sets {}",
+            set("in", "v", std::slice::from_ref(&first))
+        ))?;
+        take(format!(
+            "filter/sets {}",
+            set("not-in", "v", &[first.clone(), first])
+        ))?;
         take(format!("filter/sets {}", set("in", "v", &literals)))?;
         take(format!("filter/sets {}", set("not-in", "v", &repeats)))?;
-        take(format!("filter/sets {}; not; rewrite", set("in", "v", &repeats)))?;
+        take(format!(
+            "filter/sets {}; not; rewrite",
+            set("in", "v", &repeats)
+        ))?;
     }
     // equal contents under several kinds are not equal
-    for value in [value("int", "0"), value("long", "0"), value("binary", "0000")] {
-        let kinds = KINDS.map(kind).into_iter().filter(|kind| storage(&value) == Some(storage_of(kind)));
+    for value in [
+        value("int", "0"),
+        value("long", "0"),
+        value("binary", "0000"),
+    ] {
+        let kinds = KINDS
+            .map(kind)
+            .into_iter()
+            .filter(|kind| storage(&value) == Some(storage_of(kind)));
         let literals: Vec<Datum> = kinds
             .map(|kind| Datum::new(kind, value.clone()))
             .filter(|literal| !matches!(literal.data_type(), PrimitiveType::Fixed(length) if *length != 2))
             .collect();
-        take(format!("filter/sets {}", set("in", "v", &[&literals[..], &literals[..]].concat())))?;
+        take(format!(
+            "filter/sets {}",
+            set("in", "v", &[&literals[..], &literals[..]].concat())
+        ))?;
     }
     Ok(())
 }
 
 fn constants_at_boundaries(take: Take) -> Result<()> {
-    let sides = ["true", "false", "is-null a", "is-null a; not", "true; not", "false; not"];
+    let sides = [
+        "true",
+        "false",
+        "is-null a",
+        "is-null a; not",
+        "true; not",
+        "false; not",
+    ];
     for left in sides {
         for right in sides {
             for connective in ["and", "or"] {
                 for afterwards in ["", "; negate", "; rewrite", "; not; rewrite"] {
-                    take(format!("filter/constants {left}; {right}; {connective}{afterwards}"))?;
+                    take(format!(
+                        "filter/constants {left}; {right}; {connective}{afterwards}"
+                    ))?;
                 }
             }
         }
     }
     for constant in ["true", "false"] {
-        for afterwards in ["", "; not", "; negate", "; not; not", "; not; rewrite", "; not; negate"] {
+        for afterwards in [
+            "",
+            "; not",
+            "; negate",
+            "; not; not",
+            "; not; rewrite",
+            "; not; negate",
+        ] {
             take(format!("filter/constants {constant}{afterwards}"))?;
         }
         // a constant in every place of a join of three
@@ -339,8 +423,12 @@ fn constants_at_boundaries(take: Take) -> Result<()> {
                 sides[place] = format!("{constant}; not");
                 let [first, second] = connectives;
                 let [a, b, c] = sides;
-                take(format!("filter/constants {a}; {b}; {first}; {c}; {second}; rewrite"))?;
-                take(format!("filter/constants {a}; {b}; {c}; {second}; {first}; rewrite"))?;
+                take(format!(
+                    "filter/constants {a}; {b}; {first}; {c}; {second}; rewrite"
+                ))?;
+                take(format!(
+                    "filter/constants {a}; {b}; {c}; {second}; {first}; rewrite"
+                ))?;
             }
         }
     }
@@ -359,15 +447,20 @@ fn shapes_at_boundaries(take: Take) -> Result<()> {
         for leaves in [3, 16, 128] {
             let leaf = |number: usize| format!("eq v int:{number}");
             let rest = 1..leaves;
-            let joined_at_once: Vec<String> =
-                rest.clone().map(|number| format!("{}; {connective}", leaf(number))).collect();
+            let joined_at_once: Vec<String> = rest
+                .clone()
+                .map(|number| format!("{}; {connective}", leaf(number)))
+                .collect();
             let joined_at_the_end: Vec<String> = rest.map(leaf).collect();
             let joins = vec![connective; leaves - 1].join("; ");
             for afterwards in ["", "; negate", "; rewrite"] {
                 let calls = joined_at_once.join("; ");
                 take(format!("filter/wide {}; {calls}{afterwards}", leaf(0)))?;
                 let calls = joined_at_the_end.join("; ");
-                take(format!("filter/wide {}; {calls}; {joins}{afterwards}", leaf(0)))?;
+                take(format!(
+                    "filter/wide {}; {calls}; {joins}{afterwards}",
+                    leaf(0)
+                ))?;
             }
         }
     }
@@ -401,14 +494,24 @@ fn bytes(random: &mut Random, kind: &PrimitiveType) -> Vec<u8> {
         PrimitiveType::Fixed(length) => *length as usize,
         _ => random.below(6),
     };
-    (0..length).map(|_| if random.once_in(2) { random.bits() as u8 } else { random.choice(&[0, 1, 255]) }).collect()
+    (0..length)
+        .map(|_| {
+            if random.once_in(2) {
+                random.bits() as u8
+            } else {
+                random.choice(&[0, 1, 255])
+            }
+        })
+        .collect()
 }
 
 /// A content of the storage; a not-a-number has the one pattern.
 fn random_value(random: &mut Random, storage: &str, kind: &PrimitiveType) -> PrimitiveLiteral {
     if random.once_in(2) {
         let contents = boundary_contents(storage).iter().copied();
-        let contents: Vec<&str> = contents.filter(|content| of_length(content, kind)).collect();
+        let contents: Vec<&str> = contents
+            .filter(|content| of_length(content, kind))
+            .collect();
         if !contents.is_empty() {
             return value(storage, random.choice(&contents));
         }
@@ -419,12 +522,20 @@ fn random_value(random: &mut Random, storage: &str, kind: &PrimitiveType) -> Pri
         "long" => PrimitiveLiteral::Long(number(random, 64)),
         "float" => {
             let number = f32::from_bits(random.bits() as u32);
-            let bits = if number.is_nan() { 0x7fc0_0000 } else { number.to_bits() };
+            let bits = if number.is_nan() {
+                0x7fc0_0000
+            } else {
+                number.to_bits()
+            };
             PrimitiveLiteral::Float(f32::from_bits(bits).into())
         }
         "double" => {
             let number = f64::from_bits(random.bits());
-            let bits = if number.is_nan() { 0x7ff8_0000_0000_0000 } else { number.to_bits() };
+            let bits = if number.is_nan() {
+                0x7ff8_0000_0000_0000
+            } else {
+                number.to_bits()
+            };
             PrimitiveLiteral::Double(f64::from_bits(bits).into())
         }
         "string" => PrimitiveLiteral::String(String::from_utf8(text(random)).unwrap()),
@@ -467,7 +578,14 @@ fn random_conversion(random: &mut Random, take: Take) -> Result<bool> {
         0 => random_kind(random),
         1 => kind,
         // the columns that more than their own kind goes to
-        _ => crate::literals::kind(random.choice(&["boolean", "int", "date", "long", "timestamp", "timestamptz"])),
+        _ => crate::literals::kind(random.choice(&[
+            "boolean",
+            "int",
+            "date",
+            "long",
+            "timestamp",
+            "timestamptz",
+        ])),
     };
     convert(&literal, &to, take)
 }
@@ -501,7 +619,12 @@ impl Calls {
     const LITERALS: usize = 1024;
 
     fn new() -> Calls {
-        Calls { words: String::new(), laid: 0, nodes: 0, literals: 0 }
+        Calls {
+            words: String::new(),
+            laid: 0,
+            nodes: 0,
+            literals: 0,
+        }
     }
 
     fn say(&mut self, words: &str) {
@@ -520,7 +643,14 @@ impl Calls {
             let (operator, number) = random.choice(&OPERATORS);
             let room = Self::LITERALS - self.literals;
             if number.is_unary() || room < 64 {
-                format!("{} {name}", if number.is_unary() { operator } else { "is-null" })
+                format!(
+                    "{} {name}",
+                    if number.is_unary() {
+                        operator
+                    } else {
+                        "is-null"
+                    }
+                )
             } else if number.is_binary() {
                 self.literals += 1;
                 format!("{operator} {name} {}", literal_word(&random_own(random)))
@@ -528,8 +658,9 @@ impl Calls {
                 let bound = if random.once_in(20) { 60 } else { 6 };
                 let count = random.below(bound);
                 let some: Vec<Datum> = (0..count).map(|_| random_own(random)).collect();
-                let literals: Vec<Datum> =
-                    (0..count).map(|place| some[random.below(place + 1)].clone()).collect();
+                let literals: Vec<Datum> = (0..count)
+                    .map(|place| some[random.below(place + 1)].clone())
+                    .collect();
                 let literals = without_differences(literals);
                 self.literals += literals.len();
                 set(operator, name, &literals)

@@ -4,10 +4,16 @@ use std::sync::Arc;
 
 use chrono::{DateTime, NaiveDateTime};
 
+use crate::expr::Bind;
 use crate::expr::accessor::StructAccessor;
-use crate::spec::{Datum, Literal, NestedField, PrimitiveLiteral, PrimitiveType, Schema, Struct};
+use crate::expr::visitors::expression_evaluator::ExpressionEvaluator;
+use crate::filters::built;
+use crate::literals::{literal, literal_word};
+use crate::spec::{
+    DataFile, Datum, Literal, NestedField, PrimitiveLiteral, PrimitiveType, Schema, Struct,
+};
 
-pub const CASES: [&str; 21] = [
+pub const CASES: [&str; 22] = [
     "compare/zeros double:8000000000000000 double:0000000000000000",
     "compare/zeros float:80000000 float:00000000",
     "filter/zeros in v double:8000000000000000 double:0000000000000000",
@@ -26,6 +32,7 @@ pub const CASES: [&str; 21] = [
     "filter/storages eq v date@long:5",
     "filter/fixed-lengths eq v fixed(3):0102",
     "filter/other-family binary in v int:5",
+    "evaluate/other-family int:5 binary in v int:5",
     "compare/not-a-numbers double:fff8000000000000 double:fff0000000000000",
     "compare/not-a-numbers float:ffc00000 float:7fc00000",
     "find/any-case DEPOT Depot depot",
@@ -42,7 +49,10 @@ fn is_negative_zero(value: &PrimitiveLiteral) -> Option<bool> {
 
 /// Two zeros of two signs.
 pub fn is_left_out_of_comparing(first: &Datum, second: &Datum) -> bool {
-    match (is_negative_zero(first.literal()), is_negative_zero(second.literal())) {
+    match (
+        is_negative_zero(first.literal()),
+        is_negative_zero(second.literal()),
+    ) {
         (Some(sign), Some(other)) => sign != other && first.data_type() == second.data_type(),
         _ => false,
     }
@@ -61,41 +71,70 @@ pub fn is_left_out_of_converting(literal: &Datum, to: &PrimitiveType) -> bool {
     let is_stamp = matches!(to, PrimitiveType::Timestamp | PrimitiveType::Timestamptz);
     match (literal.literal(), literal.data_type()) {
         (PrimitiveLiteral::Long(_), PrimitiveType::Time) => is_stamp,
-        (PrimitiveLiteral::Long(number), PrimitiveType::TimestampNs | PrimitiveType::TimestamptzNs) => {
-            is_stamp && number.div_euclid(1000) != *number
-        }
+        (
+            PrimitiveLiteral::Long(number),
+            PrimitiveType::TimestampNs | PrimitiveType::TimestamptzNs,
+        ) => is_stamp && number.div_euclid(1000) != *number,
         (PrimitiveLiteral::String(text), kind) => kind != to && is_read(text),
         _ => false,
     }
 }
 
+/// A schema of optional ints.
+fn schema(names: &[&str]) -> Schema {
+    let fields = names.iter().zip(1..).map(|(name, number)| {
+        Arc::new(NestedField::optional(
+            number,
+            *name,
+            PrimitiveType::Int.into(),
+        ))
+    });
+    Schema::builder()
+        .with_fields(fields)
+        .build()
+        .expect("a schema")
+}
+
+/// A row of such cells.
+fn row(words: &str) -> Struct {
+    let cells = words
+        .split(' ')
+        .map(|word| Some(Literal::Primitive(literal(word).literal().clone())));
+    Struct::from_iter(cells)
+}
+
 /// Which of the fields the name finds where case is ignored, in many tries.
 pub fn found(words: &str) -> String {
-    let words: Vec<&str> = words.split(' ').collect();
-    let fields = words[1..].iter().zip(1..);
-    let fields = fields.map(|(name, number)| {
-        Arc::new(NestedField::optional(number, *name, PrimitiveType::Int.into()))
-    });
-    let found: BTreeSet<String> = (0..100)
-        .map(|_| {
-            let schema = Schema::builder().with_fields(fields.clone()).build().expect("a schema");
-            let field = schema.field_by_name_case_insensitive(words[0]);
-            field.map_or("none".to_string(), |field| field.name.clone())
-        })
-        .collect();
-    found.into_iter().collect::<Vec<_>>().join(" or ")
+    let (name, names) = words.split_once(' ').expect("a name and fields");
+    let names: Vec<&str> = names.split(' ').collect();
+    let find = |_| {
+        let schema = schema(&names);
+        let field = schema.field_by_name_case_insensitive(name);
+        field.map_or("none".to_string(), |field| field.name.clone())
+    };
+    let found: BTreeSet<String> = (0..100).map(find).collect();
+    Vec::from_iter(found).join(" or ")
 }
 
 /// What stands at the place of a row of such cells.
 pub fn read(words: &str) -> String {
     let (place, cells) = words.split_once(' ').expect("a place and cells");
-    let cells = cells.split(' ').map(|cell| {
-        Some(Literal::Primitive(crate::literals::literal(cell).literal().clone()))
-    });
     let accessor = StructAccessor::new(place.parse().expect("a place"), PrimitiveType::Int);
-    match accessor.get(&Struct::from_iter(cells)) {
-        Ok(Some(literal)) => crate::literals::literal_word(&literal),
+    match accessor.get(&row(cells)) {
+        Ok(Some(literal)) => literal_word(&literal),
         Ok(None) => "absent".to_string(),
+        Err(error) => format!("error {}", error.message()),
+    }
+}
+
+/// What the filter that the calls leave answers on a row of one cell, the column v.
+pub fn evaluated(words: &str) -> String {
+    let (cell, calls) = words.split_once(' ').expect("a cell and calls");
+    let bound = built(calls).bind(Arc::new(schema(&["v"])), true);
+    let answer =
+        bound.and_then(|bound| ExpressionEvaluator::new(bound).eval(&DataFile { row: row(cell) }));
+    match answer {
+        Ok(truth) => truth.to_string(),
         Err(error) => format!("error {}", error.message()),
     }
 }

@@ -47,7 +47,11 @@ pub fn built(calls: &str) -> Predicate {
             connective @ ("and" | "or") => {
                 let right = laid.pop().expect("a right side");
                 let left = laid.pop().expect("a left side");
-                if connective == "and" { left.and(right) } else { left.or(right) }
+                if connective == "and" {
+                    left.and(right)
+                } else {
+                    left.or(right)
+                }
             }
             // a condition against one literal, whatever its operator's family
             "binary" => {
@@ -77,7 +81,11 @@ fn condition<'a>(
     } else if operator.is_unary() {
         Predicate::Unary(UnaryExpression::new(operator, name))
     } else {
-        Predicate::Set(SetExpression::new(operator, name, words.map(literal).collect()))
+        Predicate::Set(SetExpression::new(
+            operator,
+            name,
+            words.map(literal).collect(),
+        ))
     }
 }
 
@@ -101,7 +109,10 @@ pub fn printed(filter: &Predicate) -> String {
         Predicate::Set(leaf) => {
             let mut literals: Vec<String> = leaf.literals().iter().map(literal_word).collect();
             literals.sort();
-            let mut words = vec![condition_words(leaf.op(), leaf.term()), literals.len().to_string()];
+            let mut words = vec![
+                condition_words(leaf.op(), leaf.term()),
+                literals.len().to_string(),
+            ];
             words.append(&mut literals);
             words.join(" ")
         }

@@ -4,7 +4,9 @@ use ordered_float::OrderedFloat;
 use crate::spec::{Datum, PrimitiveLiteral, PrimitiveType};
 
 /// The storages by their words.
-pub const STORAGES: [&str; 7] = ["boolean", "int", "long", "float", "double", "string", "binary"];
+pub const STORAGES: [&str; 7] = [
+    "boolean", "int", "long", "float", "double", "string", "binary",
+];
 
 pub fn kind(word: &str) -> PrimitiveType {
     match word {
@@ -22,7 +24,9 @@ pub fn kind(word: &str) -> PrimitiveType {
         "string" => PrimitiveType::String,
         "binary" => PrimitiveType::Binary,
         _ => {
-            let length = word.strip_prefix("fixed(").and_then(|rest| rest.strip_suffix(')'));
+            let length = word
+                .strip_prefix("fixed(")
+                .and_then(|rest| rest.strip_suffix(')'));
             PrimitiveType::Fixed(length.expect("a kind").parse().expect("a length"))
         }
     }
@@ -103,7 +107,9 @@ pub fn value(storage: &str, content: &str) -> PrimitiveLiteral {
             let bits = u64::from_str_radix(content, 16).expect("bits");
             PrimitiveLiteral::Double(OrderedFloat(f64::from_bits(bits)))
         }
-        ("string", _) => PrimitiveLiteral::String(String::from_utf8(from_hex(content)).expect("UTF-8")),
+        ("string", _) => {
+            PrimitiveLiteral::String(String::from_utf8(from_hex(content)).expect("UTF-8"))
+        }
         ("binary", _) => PrimitiveLiteral::Binary(from_hex(content)),
         _ => panic!("a storage"),
     }

@@ -30,7 +30,9 @@ fn main() -> io::Result<()> {
         ["boundaries"] => cases::boundaries(&mut |case| writeln!(out, "{case}"))?,
         ["random", seed, count] => {
             let number = |word: &str| word.parse::<u64>().map_err(io::Error::other);
-            cases::random(number(seed)?, number(count)?, &mut |case| writeln!(out, "{case}"))?
+            cases::random(number(seed)?, number(count)?, &mut |case| {
+                writeln!(out, "{case}")
+            })?
         }
         ["differences"] => {
             for case in differences::CASES {
@@ -45,7 +47,11 @@ fn main() -> io::Result<()> {
                 writeln!(out, "{line} => {}", answers::answer(&line))?
             }
         }
-        _ => return Err(io::Error::other("boundaries, random SEED COUNT, differences or answer")),
+        _ => {
+            return Err(io::Error::other(
+                "boundaries, random SEED COUNT, differences or answer",
+            ));
+        }
     }
     out.flush()
 }
