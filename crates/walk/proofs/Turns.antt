@@ -154,21 +154,8 @@ module _ {A C T : Type 0} (m : Meaning A Fault C) (read : Held T → C) (xs : Li
         let h = pops_inside in omega arith
 
     pub visits_next : (k : ℕ) (r : Result (Turn A) Refused) (fs : List (Frame A)) (room : ℕ) → t ≡ Visit k → r ≡ visiting m read k (nodes xs k) → fs ≡ awaiting k (nodes xs k) (stacked cells n) → room ≡ length cells → After all room (left xs (stacked cells n) t) fs r
-    visits_next k r fs room e er ef el =
-        subst (λ u. After all u (left xs (stacked cells n) t) fs r) (sym el)
-        (subst (λ u. After all (length cells) (left xs (stacked cells n) t) u r) (sym ef)
-        (subst (λ u. After all (length cells) (left xs (stacked cells n) t) (awaiting k (nodes xs k) (stacked cells n)) u) (sym er)
-        (subst (λ u. After all (length cells) (left xs (stacked cells n) u) (awaiting k (nodes xs k) (stacked cells n)) (visiting m read k (nodes xs k))) (sym e)
-        (visits all (length cells) k (stacked cells n) (subst (On all (length cells) (stacked cells n)) e o)))))
+    visits_next k r fs room e er ef el = rw (el, ef, er, e) (visits all (length cells) k (stacked cells n) (subst (On all (length cells) (stacked cells n)) e o))
 
     pub resumes_next : (x : A) (f : Frame A) (rest : List (Frame A)) (r : Result (Turn A) Refused) (fs : List (Frame A)) (room : ℕ) → t ≡ Answer x → stacked cells n ≡ f ∷ rest → r ≡ resuming m x f → fs ≡ remaining x f rest → room ≡ length cells → After all room (left xs (stacked cells n) t) fs r
     resumes_next x f rest r fs room e ep er ef el =
-        subst (λ u. After all u (left xs (stacked cells n) t) fs r) (sym el)
-        (subst (λ u. After all (length cells) (left xs (stacked cells n) t) u r) (sym ef)
-        (subst (λ u. After all (length cells) (left xs (stacked cells n) t) (remaining x f rest) u) (sym er)
-        (subst (λ u. After all (length cells) (left xs u t) (remaining x f rest) (resuming m x f)) (sym ep)
-        (subst (λ u. After all (length cells) (left xs (f ∷ rest) u) (remaining x f rest) (resuming m x f)) (sym e)
-        (resumes all (length cells) x f rest (subst (λ u. On all (length cells) u (Answer x)) ep (subst (On all (length cells) (stacked cells n)) e o)))))))
-
-    pub ends : (x : A) → t ≡ Answer x → stacked cells n ≡ [] → Ok x ≡ all
-    ends x e ep = (subst (λ u. On all (length cells) u (Answer x)) ep (subst (On all (length cells) (stacked cells n)) e o)).gives
+        rw (el, ef, er, ep, e) (resumes all (length cells) x f rest (subst (λ u. On all (length cells) u (Answer x)) ep (subst (On all (length cells) (stacked cells n)) e o)))

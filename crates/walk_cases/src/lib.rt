@@ -1,0 +1,5 @@
+//! Cases of the walk: each refusal, the order in which a visitor is asked, and the boundaries.
+#![tactic(auto)]
+
+#[cfg(test)]
+mod cases;
