@@ -87,12 +87,12 @@ module _ {A C T : Type 0} (m : Meaning A Fault C) (read : Held T → C) (xs : Li
   -- after it: there is less to come, or all comes to the refusal
   abbrev pub After : Result A Refused → ℕ → ℕ → List (Frame A) → Result (Turn A) Refused → Type 0
   After all room more fs (Ok t) = On all room fs t × (left xs fs t < more)
-  After all room more fs (Err e) = all ≡ Err e
+  After all room more fs (Err e) = Err e ≡ all
 
   module _ (all : Result A Refused) (room : ℕ) where
     rises : (fs : List (Frame A)) (more : ℕ) (r : Result A Refused) → unwind fs r ≡ all → load xs 1 1 fs ≤ room → Ready xs fs → load xs 3 2 fs < more → After all room more fs (turned r)
     rises fs more (Ok x) e h g l = (record { gives = e; fits = omega arith; ready = g; next = tt }, omega arith)
-    rises fs more (Err f) e h g l = sym e ∙ unwind_refused fs f
+    rises fs more (Err f) e h g l = sym (unwind_refused fs f) ∙ e
 
     -- a filter to be visited, read as p
     record Here (k : ℕ) (fs : List (Frame A)) (p : Placed (Held T)) : Type 0 where
@@ -138,24 +138,37 @@ module _ {A C T : Type 0} (m : Meaning A Fault C) (read : Held T → C) (xs : Li
     resumes x (Right n j l) fs o = let h = o.fits in rises fs (left xs (Right n j l ∷ fs) (Answer x)) (at_node n (joined m j l x)) o.gives (omega arith) o.ready (omega arith)
     resumes x (Not n) fs o = let h = o.fits in rises fs (left xs (Not n ∷ fs) (Answer x)) (at_node n (m.other x)) o.gives (omega arith) o.ready (omega arith)
 
-  -- the turns, as the code goes: n frames of a table wait
-  module _ (all : Result A Refused) (cells : List (Frame A)) (n : ℕ) (t : Turn A) (o : On all (length cells) (stacked cells n) t) where
-    pub pops_inside : n ≤ length cells
-    pops_inside = let f = frames_few xs (stacked cells n) in let l = stacked_length cells n in let h = o.fits in omega arith
+-- the turns, as the code goes: n frames of a table wait
+pub record Standing {A C T : Type 0} (m : Meaning A Fault C) (read : Held T → C) (xs : List (Slot T)) (all : Result A Refused) (cells : List (Frame A)) (n : ℕ) (t : Turn A) : Type 0 where
+  pub on : On m read xs all (length cells) (stacked cells n) t
 
-    pub visits_inside : (k : ℕ) → t ≡ Visit k → n < length cells
-    visits_inside k e =
-        let h = (subst (On all (length cells) (stacked cells n)) e o).fits in
-        let f = frames_few xs (stacked cells n) in let l = stacked_length cells n in let s = some_size (filter_at xs k) in omega arith
+module _ {A C T : Type 0} {m : Meaning A Fault C} {read : Held T → C} {xs : List (Slot T)} {all : Result A Refused} {cells : List (Frame A)} {n : ℕ} {t : Turn A} (o : Standing m read xs all cells n t) where
+  pub pops_inside : n ≤ length cells
+  pops_inside = let f = frames_few xs (stacked cells n) in let l = stacked_length cells n in let h = o.on.fits in omega arith
 
-    pub resumes_inside : (f : Frame A) (after : List (Frame A)) (i : ℕ) → stacked cells n ≡ f ∷ stacked after i → length after ≡ length cells → i < length after
-    resumes_inside f after i e l =
-        let u = ap length e in let v = stacked_length cells n in let w = stacked_length after i in
-        let h = pops_inside in omega arith
+  pub visits_inside : {k : ℕ} → t ≡ Visit k → n < length cells
+  visits_inside {k} e =
+      let h = (subst (On m read xs all (length cells) (stacked cells n)) e o.on).fits in
+      let f = frames_few xs (stacked cells n) in let l = stacked_length cells n in let s = some_size (filter_at xs k) in omega arith
 
-    pub visits_next : (k : ℕ) (r : Result (Turn A) Refused) (fs : List (Frame A)) (room : ℕ) → t ≡ Visit k → r ≡ visiting m read k (nodes xs k) → fs ≡ awaiting k (nodes xs k) (stacked cells n) → room ≡ length cells → After all room (left xs (stacked cells n) t) fs r
-    visits_next k r fs room e er ef el = rw (el, ef, er, e) (visits all (length cells) k (stacked cells n) (subst (On all (length cells) (stacked cells n)) e o))
+  pub resumes_inside : (f : Frame A) (after : List (Frame A)) (i : ℕ) → stacked cells n ≡ f ∷ stacked after i → length after ≡ length cells → i < length after
+  resumes_inside f after i e l =
+      let u = ap length e in let v = stacked_length cells n in let w = stacked_length after i in
+      let h = pops_inside in omega arith
 
-    pub resumes_next : (x : A) (f : Frame A) (rest : List (Frame A)) (r : Result (Turn A) Refused) (fs : List (Frame A)) (room : ℕ) → t ≡ Answer x → stacked cells n ≡ f ∷ rest → r ≡ resuming m x f → fs ≡ remaining x f rest → room ≡ length cells → After all room (left xs (stacked cells n) t) fs r
-    resumes_next x f rest r fs room e ep er ef el =
-        rw (el, ef, er, ep, e) (resumes all (length cells) x f rest (subst (λ u. On all (length cells) u (Answer x)) ep (subst (On all (length cells) (stacked cells n)) e o)))
+  -- the next turn of the table, or a refusal
+  abbrev pub Goes : (after : List (Frame A)) (k : ℕ) → Result (Turn A) Refused → Type 0
+  Goes after k (Ok u) = Standing m read xs all after k u × (left xs (stacked after k) u < left xs (stacked cells n) t)
+  Goes after k (Err e) = Err e ≡ all
+
+  goes : (after : List (Frame A)) (k : ℕ) (r : Result (Turn A) Refused) → length after ≡ length cells → After m read xs all (length cells) (left xs (stacked cells n) t) (stacked after k) r → Goes after k r
+  goes after k (Ok u) l h = (record { on = subst (λ j. On m read xs all j (stacked after k) u) (sym l) h.0 }, h.1)
+  goes after k (Err e) l h = h
+
+  pub visits_next : {k : ℕ} (after : List (Frame A)) (i : ℕ) (r : Result (Turn A) Refused) → t ≡ Visit k → r ≡ visiting m read k (nodes xs k) → stacked after i ≡ awaiting k (nodes xs k) (stacked cells n) → length after ≡ length cells → Goes after i r
+  visits_next {k} after i r e er ef el =
+      goes after i r el (rw (ef, er, e) (visits m read xs all (length cells) k (stacked cells n) (subst (On m read xs all (length cells) (stacked cells n)) e o.on)))
+
+  pub resumes_next : {x : A} {f : Frame A} {rest : List (Frame A)} (after : List (Frame A)) (i : ℕ) (r : Result (Turn A) Refused) → t ≡ Answer x → stacked cells n ≡ f ∷ rest → r ≡ resuming m x f → stacked after i ≡ remaining x f rest → length after ≡ length cells → Goes after i r
+  resumes_next {x} {f} {rest} after i r e ep er ef el =
+      goes after i r el (rw (ef, er, ep, e) (resumes m read xs all (length cells) x f rest (subst (λ u. On m read xs all (length cells) u (Answer x)) ep (subst (On m read xs all (length cells) (stacked cells n)) e o.on))))

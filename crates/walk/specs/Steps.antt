@@ -1,5 +1,5 @@
 -- The steps of a walk, one node or one answer at a time.
-use Rattle.std.specs.Prelude.{ℕ, zero, suc, ◌-◌, cond, List, [], ◌∷◌, Some, None, Ok, Err, Option, Result, nat_le, slice_index_or}
+use Rattle.std.specs.Prelude.{ℕ, zero, suc, List, [], ◌∷◌, Ok, Err, Result, slice_index_or}
 use Rattle.values.specs.declared.literals.Literal.{Literal}
 use Rattle.values.specs.declared.refusals.Refused.{Refused}
 use Rattle.filters.specs.Meanings.{Meaning}
@@ -26,6 +26,11 @@ stacked fs (suc n) = slice_index_or fs n (Not 0) ∷ stacked fs n
 
 abbrev pub waiting : {A : Type 0} → Stack A → List (Frame A)
 waiting s = stacked s.frames.now s.count
+
+abbrev pub node_of : {A : Type 0} → Frame A → ℕ
+node_of (Left n j r) = n
+node_of (Right n j x) = n
+node_of (Not n) = n
 
 -- an answer for what waits
 abbrev pub turned : {A : Type 0} → Result A Refused → Result (Turn A) Refused
@@ -67,7 +72,3 @@ abbrev pub lent : List ℕ → List ℕ → List Literal → Held Column → Tes
 lent places text ls (unary o c) = tested_by text o (bound_of places c) []
 lent places text ls (binary o c i) = tested_by text o (bound_of places c) (cells_at ls (record { start = i; count = 1 }))
 lent places text ls (among o c r) = tested_by text o (bound_of places c) (cells_at ls r)
-
--- what so many places leave of a room, if it suffices
-abbrev pub spared : ℕ → ℕ → Option ℕ
-spared room n = cond (nat_le n room) (Some (room - n)) None

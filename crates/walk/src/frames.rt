@@ -1,6 +1,6 @@
 // What a walk has still to do, in a table that the caller lends.
 ghost use Rattle.std.specs.Prelude.{◌≡◌, ◌<◌, ◌≤◌, [], ◌∷◌, length, MatchOption};
-ghost use Rattle.walk.specs.Steps.{waiting};
+ghost use Rattle.walk.specs.Steps.{node_of, waiting};
 
 #[derive(Clone, Copy)]
 pub enum Join {
@@ -17,6 +17,17 @@ pub enum Frame<T> {
     Right(u16, Join, T),
     // the Not at the node
     Not(u16),
+}
+
+impl<T: Copy> Frame<T> {
+    // The node that it is of.
+    pub(crate) fn node(self) -> u16
+        ensures is_its_own { result ≡ node_of self }
+    {
+        match self {
+            Frame::Left(node, _, _) | Frame::Right(node, _, _) | Frame::Not(node) => node,
+        }
+    }
 }
 
 // What comes next: a node is visited, or what waits goes on with an answer.

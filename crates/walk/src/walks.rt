@@ -1,5 +1,5 @@
 // The walk over a bound filter, for every visitor.
-ghost use Rattle.std.specs.Prelude.{◌≡◌, ◌<◌, ◌≤◌, length};
+ghost use Rattle.std.specs.Prelude.{◌≡◌, ◌<◌, ◌≤◌, length, nat_le};
 ghost use Rattle.nodes.specs.Filters.{Whole};
 ghost use Rattle.nodes.specs.Tables.{nodes as nodes_of, filter_at};
 ghost use Rattle.columns.specs.Bound.{within, bound_of, cells_at};
@@ -7,7 +7,7 @@ ghost use Rattle.book.specs.Calls.{granted};
 ghost use Rattle.book.specs.Ways.{tables, setting};
 ghost use Rattle.walk.specs.Faults.{at_node};
 ghost use Rattle.walk.specs.Tests.{tested, tested_by};
-ghost use Rattle.walk.specs.Steps.{waiting, turned, visiting, awaiting, resuming, remaining, lent, spared};
+ghost use Rattle.walk.specs.Steps.{waiting, turned, visiting, awaiting, resuming, remaining, lent};
 ghost use Rattle.walk.specs.Visits.{visited, size, barred_walk, walk_of, TellsWhatIsMeant};
 
 use crate::conditions::Test;
@@ -21,26 +21,40 @@ use nodes::operators::PredicateOperator;
 use nodes::slots::{Node, Run, Slot};
 use values::refusals::{Reason, Refused};
 
-// What the filter leaves of a room for so many nodes, if it suffices.
-fn spare<T: Copy>(slots: &[Slot<T>], at: u16, room: usize) -> Option<usize>
-    requires { Whole slots.now at }
-    ensures takes_one_for_each_node { result ≡ spared room (size (filter_at slots.now at)) }
+// Whether the table has a frame for each node of the filter: the nodes still to be counted wait in it, as frames of theirs.
+fn fits<T: Copy>(slots: &[Slot<Column>], n: u16, work: &mut [Frame<T>]) -> bool
+    requires { Whole slots.now n }
+    ensures counts_its_nodes { result ≡ nat_le (size (filter_at slots.now n)) (length work.old) }
 {
-    let rest = room.checked_sub(1)?;
-    let node = slots[at as usize].node;
-    match node {
-        Node::And(l, r) | Node::Or(l, r) => {
-            let left = spare(slots, l, rest)?;
-            spare(slots, r, left)
+    let mut rest = work.len();
+    let mut stack = Stack {
+        frames: work,
+        count: 0,
+    };
+    let mut at = n;
+    'nodes: loop {
+        if rest == 0 {
+            return false;
         }
-        Node::Not(i) => spare(slots, i, rest),
-        _ => Some(rest),
+        rest -= 1;
+        let node = slots[at as usize].node;
+        at = match node {
+            Node::And(l, r) | Node::Or(l, r) => {
+                stack.push(Frame::Not(r));
+                l
+            }
+            Node::Not(i) => i,
+            _ => match stack.pop() {
+                Some(frame) => frame.node(),
+                None => return true,
+            },
+        };
     }
 }
 
-// Refuses unsound tables, a filter that does not stand, and a working table with less room than the filter has nodes.
-fn check(book: &Book<'_, '_, Column>, n: u16, room: usize) -> Result<(), Refused>
-    ensures asks_in_order { result ≡ granted (barred_walk (setting within book.now) (tables book.now) n room) tt }
+// Refuses unsound tables, a filter that does not stand, and a working table with fewer frames than the filter has nodes.
+fn check<T: Copy>(book: &Book<'_, '_, Column>, n: u16, work: &mut [Frame<T>]) -> Result<(), Refused>
+    ensures asks_in_order { result ≡ granted (barred_walk (setting within book.now) (tables book.now) n (length work.old)) tt }
 {
     if let Some(at) = book.unsound() {
         return Err(Reason::UnsoundTables.at(at as usize));
@@ -48,9 +62,10 @@ fn check(book: &Book<'_, '_, Column>, n: u16, room: usize) -> Result<(), Refused
     if !book.stands(n) {
         return Err(Reason::NoFilter.at(n as usize));
     }
-    match spare(book.slots, n, room) {
-        Some(_) => Ok(()),
-        None => Err(Reason::WorkingTableTooShort.at(0)),
+    if fits(book.slots, n, work) {
+        Ok(())
+    } else {
+        Err(Reason::WorkingTableTooShort.at(0))
     }
 }
 
@@ -165,13 +180,13 @@ fn run<V: Visitor>(
     };
     let mut turn = Turn::Visit(n);
     'turns: loop {
-        match turn {
-            Turn::Visit(at) => turn = visit(book, at, visitor, &mut stack)?,
+        turn = match turn {
+            Turn::Visit(at) => visit(book, at, visitor, &mut stack)?,
             Turn::Answer(answer) => match stack.pop() {
-                Some(frame) => turn = resume(frame, answer, visitor, &mut stack)?,
+                Some(frame) => resume(frame, answer, visitor, &mut stack)?,
                 None => return Ok(answer),
             },
-        }
+        };
     }
 }
 
@@ -186,6 +201,6 @@ pub fn walk<V: Visitor>(
     ensures goes_by_the_rules { result ≡ walk_of (V.meaning visitor.now) book.now.places.now (setting within book.now) (tables book.now) n (length work.old) }
     ensures tells_what_the_filter_means { TellsWhatIsMeant (V.meaning visitor.now) book.now.places.now (setting within book.now) (tables book.now) n (length work.old) result }
 {
-    check(book, n, work.len())?;
+    check(book, n, work)?;
     run(book, n, visitor, work)
 }
