@@ -1,0 +1,4 @@
+pub mod Verdicts
+pub mod Reading
+pub mod Answers
+pub mod Visitors
