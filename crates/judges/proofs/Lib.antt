@@ -1,3 +1,4 @@
 pub mod Lists
 pub mod NotANumber
 pub mod EvenHanded
+pub mod Pages

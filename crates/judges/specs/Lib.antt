@@ -2,3 +2,4 @@ pub mod Verdicts
 pub mod Reading
 pub mod Answers
 pub mod Visitors
+pub mod Pages

@@ -4,5 +4,6 @@
 pub mod answers;
 pub mod evaluator;
 pub mod found;
+pub mod page;
 pub mod three_valued;
 pub mod verdicts;

@@ -1,0 +1,6 @@
+use Rattle.std.proofs.Common.{map}
+use Rattle.judges.proofs.Pages.{pages_evenly}
+use Rattle.judges.proofs.page.Page.new.Goals as goal
+
+pub returns-clause-is_even_handed : goal.returns-clause-is_even_handed
+returns-clause-is_even_handed g c = pages_evenly (map g.R.Row.reached c.args.rows.now)
