@@ -3,3 +3,4 @@ pub mod Reading
 pub mod Answers
 pub mod Visitors
 pub mod Pages
+pub mod Agreement

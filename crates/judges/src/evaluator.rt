@@ -4,6 +4,7 @@ ghost use Rattle.columns.specs.Bound.{within};
 ghost use Rattle.book.specs.Ways.{tables, setting};
 ghost use Rattle.walk.specs.Visits.{walk_of, TellsWhatIsMeant};
 ghost use Rattle.judges.specs.Visitors.{evaluating};
+ghost use Rattle.judges.specs.Agreement.{CountsUnknownAsFalse};
 
 use crate::answers::{answer, literals};
 use crate::found::Found;
@@ -60,6 +61,7 @@ pub fn eval<R: Row>(
 ) -> Result<bool, Refused>
     ensures goes_by_the_rules { result ≡ walk_of (evaluating (R.reached row.now)) book.now.places.now (setting within book.now) (tables book.now) n (length work.old) }
     ensures tells_what_the_filter_means { TellsWhatIsMeant (evaluating (R.reached row.now)) book.now.places.now (setting within book.now) (tables book.now) n (length work.old) result }
+    ensures counts_unknown_as_false { CountsUnknownAsFalse (R.reached row.now) }
 {
     walk(book, n, &Evaluator { row }, work)
 }

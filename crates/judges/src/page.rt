@@ -4,6 +4,7 @@ ghost use Rattle.filters.specs.Meanings.{EvenHanded};
 ghost use Rattle.nodes.specs.Conditions.{opposite};
 ghost use Rattle.walk.specs.Tests.{tested};
 ghost use Rattle.judges.specs.Answers.{stands_or_beyond};
+ghost use Rattle.judges.specs.Agreement.{AgreesWithEachRow};
 ghost use Rattle.judges.specs.Visitors.{condition};
 ghost use Rattle.judges.specs.Pages.{no_row, every_yes, every_no, marked, marking, paging};
 
@@ -68,6 +69,7 @@ impl<'a, R: Row> Page<'a, R> {
     pub fn new(rows: &'a [R]) -> Page<'a, R>
         ensures judges_the_rows { result.rows.now ≡ rows.now }
         ensures is_even_handed { EvenHanded opposite (paging (map R.reached rows.now)) }
+        ensures says_each_rows_verdict { AgreesWithEachRow (map R.reached rows.now) }
     {
         Page { rows }
     }

@@ -1,0 +1,5 @@
+//! Tests of the visitors that judge rows.
+#![tactic(auto)]
+
+#[cfg(test)]
+mod cases;
