@@ -56,6 +56,19 @@ fn documented_negate(rt: HostRuntime) {
     assert!(rt; is_binary(slots[2].node, NOT_LESS, C, 2));
 }
 
+// not over a < 10 lays a Not, and rewrites nothing
+#[test]
+fn documented_not(rt: HostRuntime) {
+    let mut slots = [FREE; 4];
+    let mut literals = [NONE; 4];
+    let mut book = book(&mut slots, 0, &mut literals, 0);
+    assert!(rt; matches!(below(&mut book, A, 10), Ok(0)));
+    assert!(rt; matches!(book.not(0), Ok(1)));
+    assert!(rt; book.stands(1) && !book.stands(0));
+    assert!(rt; matches!(slots[1].node, Node::Not(0)));
+    assert!(rt; is_binary(slots[0].node, LESS, A, 0));
+}
+
 // the rewriting of not (a < 5) is a >= 5
 #[test]
 fn documented_rewrite_not(rt: HostRuntime) {
