@@ -18,7 +18,8 @@ pub trait Row {
     fn text(&self) -> &[u8]
         ensures is_the_rows_own { result.now ≡ words self.now };
 
-    // The value at the places, counted from the top, under the kind; absent is an answer of its own.
+    // The value at the places, counted from the top, under the kind; absent is an answer of its own. The two are parts of
+    // an accessor, of which rows do not know.
     fn get(&self, places: &[u16], kind: Kind) -> Result<Option<Literal>, Reason>
         ensures says_what_is_reached { said (words self.now) result ≡ reached self.now places.now kind }
         ensures finds_the_kind_asked { IfFound result (λ l. l.kind ≡ kind) }
