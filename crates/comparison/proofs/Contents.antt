@@ -1,15 +1,11 @@
 -- The order and the equality of contents, from those of numbers and of bytes.
-use Rattle.std.proofs.Common.{◌≡◌, ℕ, ◌<◌, ◌≤◌, Bool, true, false, cond, ◌&&◌, eqb, Some, None, Option, Ordering, Less, Equal, Greater, sym, refl, ap, ◌∙◌, subst, arith, lit<, lit≤}
+use Rattle.std.proofs.Common.{◌≡◌, ℕ, ◌<◌, ◌≤◌, Bool, true, false, cond, eqb, Some, None, Option, Ordering, Less, Equal, Greater, sym, refl, ap, ◌∙◌, subst, arith, lit<, lit≤}
 use Rattle.std.proofs.lemmas.Bool.Decides.{nat_tests}
 use Rattle.std.proofs.lemmas.Bool.{eqb-true, eq-eqb}
-use Rattle.std.specs.Cmp.{both_ways, Equal-is}
-use Rattle.std.specs.Ordering.{is_eq}
-use Rattle.std.specs.Str.{bytes_eq}
 use Rattle.values.specs.Contents.{Numeric, boolean, int, long, float, double, Textual, string, binary, Content, number, bytes, above_max, below_min}
 use Rattle.values.specs.Kept.{numeric_code, textual_code}
 use Rattle.comparison.specs.Orders.{number_order, byte_order, content_order}
-use Rattle.comparison.specs.Equality.{same_number, same_extreme, same_content}
-use Rattle.comparison.specs.Equal.{one-numeric, one_textual, content_tells}
+use Rattle.comparison.specs.Equal.{one-numeric, one_textual}
 use Rattle.comparison.specs.Laws.{turned, turned_answer}
 use Rattle.comparison.proofs.Lawful.{Lawful, numbers, byte_lists}
 
@@ -112,28 +108,3 @@ pub content_joins : (x y z : Content) (o p : Ordering) → content_order x y ≡
 content_joins (number s m) (number r n) (number q k) o p g h u v = joins_when number_order numbers (numeric_code s) (numeric_code r) (numeric_code q) m n k o p g h u v
 content_joins (bytes s a) (bytes r b) (bytes q c) o p g h u v = joins_when byte_order byte_lists (textual_code s) (textual_code r) (textual_code q) a b c o p g h u v
 content_joins x y z o p g h u v = cc
-
--- ---- equality, from the order
-
-pub compared_tells : (x y : Content) (o : Ordering) → content_order x y ≡ Some o → is_eq o ≡ same_content x y
-compared_tells x y o h = both_ways _ _
-    (λ e. (content_tells x y).1 (content_equal x y (h ∙ ap Some ((Equal-is o).0 e))))
-    (λ e. (Equal-is o).1 (content_same x o (subst (λ (z : Content). content_order x z ≡ Some o) (sym ((content_tells x y).0 e)) h)))
-
-apart : (b r : Bool) (o : Ordering) → cond b (Some o) None ≡ None → false ≡ (b && r)
-apart true r o h = absurd (cc)
-apart false r o h = refl
-
-pub not_compared_tells : (x y : Content) → content_order x y ≡ None → same_extreme x y ≡ same_content x y
-not_compared_tells (number s m) (number r n) h = apart (eqb (numeric_code s) (numeric_code r)) (same_number m n) (number_order m n) h
-not_compared_tells (bytes s a) (bytes r b) h = apart (eqb (textual_code s) (textual_code r)) (bytes_eq a b) (byte_order a b) h
-not_compared_tells (number s m) y h = refl
-not_compared_tells (bytes s a) y h = refl
-not_compared_tells above_max (number r n) h = refl
-not_compared_tells above_max (bytes r b) h = refl
-not_compared_tells above_max above_max h = refl
-not_compared_tells above_max below_min h = refl
-not_compared_tells below_min (number r n) h = refl
-not_compared_tells below_min (bytes r b) h = refl
-not_compared_tells below_min above_max h = refl
-not_compared_tells below_min below_min h = refl

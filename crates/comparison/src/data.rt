@@ -7,7 +7,7 @@ ghost use Rattle.comparison.specs.Laws.{Ordered};
 ghost use Rattle.comparison.specs.Equal.{datum_per, datum_equivalence};
 
 use crate::text::Text;
-use floats::order::total_cmp;
+use floats::order::{same, total_cmp};
 use std::cmp::Ordering;
 use std::fmt;
 use std::marker::Model;
@@ -75,13 +75,20 @@ impl<'a> Datum<'a> {
         )
     }
 
-    // Whether the contents agree.
+    // Whether the contents agree. Not by their order, which reads texts of two lengths as far as they agree.
     fn same_content(&self, other: &Datum) -> bool
         ensures compares_contents { result ≡ same_content self.now.content other.now.content }
     {
-        match self.content_cmp(other) {
-            Some(standing) => standing.is_eq(),
-            None => self.is_same_extreme(other),
+        match (self.literal.value, other.literal.value) {
+            (Value::Boolean(x), Value::Boolean(y)) => x == y,
+            (Value::Int(x), Value::Int(y)) => x == y,
+            (Value::Long(x), Value::Long(y)) => x == y,
+            (Value::Float(x), Value::Float(y)) => same(x, y),
+            (Value::Double(x), Value::Double(y)) => same(x, y),
+            (Value::String(x), Value::String(y)) | (Value::Binary(x), Value::Binary(y)) => {
+                x.of(self.text) == y.of(other.text)
+            }
+            _ => self.is_same_extreme(other),
         }
     }
 

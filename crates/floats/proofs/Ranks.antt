@@ -1,16 +1,15 @@
 -- totalOrder is the order of the bit patterns read as signs and magnitudes, so it has the laws of the order of numbers.
-use Rattle.std.proofs.Common.{◌≡◌, ℕ, zero, suc, ◌+◌, ◌-◌, ◌*◌, ◌/◌, ◌%◌, ◌^◌, ◌<◌, ◌≤◌, Bool, true, false, cond, not, ◌&&◌, ◌||◌, T, eqb, ltb, leb, ◌⊎◌, ℤ, pos, Some, None, Ordering, Less, Equal, Greater, sym, refl, ap, ap₂, ◌∙◌, subst, inl, inr, true≢false, le_trans, le_of_eq, lt_of_le_of_lt, add_assoc, mul-le-mul_right, mod-eq_of_lt, suc-mul, le_antisymm, eq-or-lt_of_le, mul-pos, le-div_iff_mul-le, zero-add, zero-mul, mul_right_comm, arith, lit<, pow_pos, pow-add}
+use Rattle.std.proofs.Common.{◌≡◌, ℕ, zero, suc, ◌+◌, ◌-◌, ◌*◌, ◌/◌, ◌%◌, ◌^◌, ◌<◌, ◌≤◌, Bool, true, false, cond, not, ◌&&◌, ◌||◌, T, eqb, ltb, leb, ◌⊎◌, ℤ, pos, Ordering, Less, Equal, Greater, sym, refl, ap, ◌∙◌, subst, inl, inr, true≢false, le_trans, le_of_eq, lt_of_le_of_lt, add_assoc, mul-le-mul_right, mod-eq_of_lt, suc-mul, le_antisymm, eq-or-lt_of_le, mul-pos, le-div_iff_mul-le, zero-add, zero-mul, mul_right_comm, arith, lit<, pow_pos, pow-add}
 use lib.Pow.{shr_mono}
 use lib.Ieee.{Float, Format, binary32, binary64, nan, inf, fin, lt, eq, below, level as alike, is_nan, fits, to_bits, of_bits, top, hid, ones, prec, low, up, down, size}
 use lib.Ieee.Digits.{size-lt, size-le, size_reaches}
 use lib.Ieee.Fits.{kept-lt, up_pos, down_pos, two}
 use lib.Ieee.Nearest.{div_mono}
 use lib.Ieee.Bits.{of_bits-to_bits, to_bits-lt, nan_bits_is, nan_bits_above}
-use Rattle.std.proofs.lemmas.Bool.{ltb-false, leb-true, le-leb, lt-leb, cases_lt, eq-eqb}
+use Rattle.std.specs.Ordering.{bool_cmp}
+use Rattle.std.proofs.lemmas.Bool.{ltb-false, leb-true, lt-ltb, le-ltb, le-leb, lt-leb, cases_lt, eq-eqb}
 use Rattle.std.proofs.lemmas.Bool.Decides.{nat_tests}
-use Rattle.std.proofs.lemmas.Float.{eq_flip, eq-not_lt, T_from_true}
 use Rattle.std.specs.Float.{is_sign_negative}
-use Rattle.std.specs.Ordering.{bool_cmp, float_partial_cmp, ordering_then}
 use Rattle.floats.specs.TotalOrder.{total_order, placed, sign_order, Before, Level, Lawful}
 use Rattle.floats.specs.Patterns.{rank, rank_order}
 
@@ -226,7 +225,19 @@ pub placed_by_rank : (f : Format) (x y : Float) → T (fits f x) → T (fits f y
 placed_by_rank f x y p q = both_ways (total_order x y) (total_order y x) (rank f x) (rank f y) (by_patterns f x y p q) (by_patterns f y x q p)
 
 equal_ranks : (a b : ℕ) → rank_order a b ≡ Equal → a ≡ b
-equal_ranks a b h = grind (arith, nat_tests)
+equal_ranks a b h = elim (cases_lt a b) [
+  | inl l ↦ absurd (differ (sym (rw (lt-ltb a b l) at h)))
+  | inr l ↦ elim (cases_lt b a) [
+    | inl g ↦ absurd (other (sym (rw (le-ltb a b l, lt-ltb b a g) at h)))
+    | inr g ↦ le_antisymm g l
+  ]
+]
+  where
+    differ : ◌≡◌ {A = Ordering} Equal Less → ⊥
+    differ e = let z : ◌≡◌ {A = ℕ} 0 1 = cc in omega arith
+
+    other : ◌≡◌ {A = Ordering} Equal Greater → ⊥
+    other e = let z : ◌≡◌ {A = ℕ} 0 1 = cc in omega arith
 
 same_rank : (a : ℕ) → rank_order a a ≡ Equal
 same_rank a = grind (arith, nat_tests)
@@ -296,44 +307,38 @@ lawful f =
 
 -- ---- for the code
 
-greater : (x y : Float) → lt y x ≡ true → placed x y ≡ Greater
+pub greater : (x y : Float) → lt y x ≡ true → placed x y ≡ Greater
 greater x y h = let g = lt_once y x h in rw (g, h)
 
--- only numbers compare
-compared : (x y : Float) (o : Ordering) → float_partial_cmp x y ≡ Some o → (is_nan x ≡ false) × (is_nan y ≡ false)
-unfolding lt eq is_nan
-compared nan nan o h = absurd (cc)
-compared nan (inf t) o h = absurd (cc)
-compared nan (fin t n d) o h = absurd (cc)
-compared (inf s) nan o h = absurd (cc)
-compared (inf s) (inf t) o h = (refl, refl)
-compared (inf s) (fin t n d) o h = (refl, refl)
-compared (fin s m e) nan o h = absurd (cc)
-compared (fin s m e) (inf t) o h = (refl, refl)
-compared (fin s m e) (fin t n d) o h = (refl, refl)
-
-pub not_compared : (x y : Float) → float_partial_cmp x y ≡ None → bool_cmp (is_nan x) (is_nan y) ≡ placed x y
+-- of a number and the not-a-number
+pub number_first : (x y : Float) → is_nan x ≡ false → is_nan y ≡ true → placed x y ≡ Less
 unfolding lt eq is_nan is_sign_negative
-not_compared nan nan h = refl
-not_compared nan (inf t) h = refl
-not_compared nan (fin t n d) h = refl
-not_compared (inf s) nan h = sym (nan_last (inf s) refl)
-not_compared (inf true) (inf true) h = absurd (cc)
-not_compared (inf true) (inf false) h = absurd (cc)
-not_compared (inf false) (inf true) h = absurd (cc)
-not_compared (inf false) (inf false) h = absurd (cc)
-not_compared (inf true) (fin t n d) h = absurd (cc)
-not_compared (inf false) (fin t n d) h = absurd (cc)
-not_compared (fin s m e) nan h = sym (nan_last (fin s m e) refl)
-not_compared (fin s m e) (inf true) h = absurd (cc)
-not_compared (fin s m e) (inf false) h = absurd (cc)
-not_compared (fin s m e) (fin t n d) h = absurd (go s t (m * up e * down d) (n * up d * down e) h)
-  where
-    go : (s t : Bool) (A B : ℕ) → cond (below s A t B) (Some Less) (cond (alike s A t B) (Some Equal) (cond (below t B s A) (Some Greater) None)) ≡ None → ⊥
-    go true true A B h = grind (arith, nat_tests)
-    go true false A B h = grind (arith, nat_tests)
-    go false true A B h = grind (arith, nat_tests)
-    go false false A B h = grind (arith, nat_tests)
+number_first x nan p q = nan_last x p
+number_first x (inf t) p q = absurd (true≢false (sym q))
+number_first x (fin t n d) p q = absurd (true≢false (sym q))
+
+pub nan-after : (x y : Float) → is_nan x ≡ true → is_nan y ≡ false → placed x y ≡ Greater
+unfolding lt eq is_nan is_sign_negative
+nan-after (inf s) y p q = absurd (true≢false (sym p))
+nan-after (fin s m e) y p q = absurd (true≢false (sym p))
+nan-after nan nan p q = absurd (true≢false q)
+nan-after nan (inf t) p q = refl
+nan-after nan (fin t n d) p q = refl
+
+pub both_nan : (x y : Float) → is_nan x ≡ true → is_nan y ≡ true → placed x y ≡ Equal
+unfolding lt eq is_nan is_sign_negative
+both_nan (inf s) y p q = absurd (true≢false (sym p))
+both_nan (fin s m e) y p q = absurd (true≢false (sym p))
+both_nan nan (inf t) p q = absurd (true≢false (sym q))
+both_nan nan (fin t n d) p q = absurd (true≢false (sym q))
+both_nan nan nan p q = refl
+
+-- of equal numbers the negative comes first
+pub signs : (s t : Bool) → bool_cmp t s ≡ sign_order s t
+signs true true = refl
+signs true false = refl
+signs false true = refl
+signs false false = refl
 
 -- of two numbers of which neither is less, the signs decide
 pub by_signs : (x y : Float) → is_nan x ≡ false → is_nan y ≡ false → lt x y ≡ false → lt y x ≡ false
@@ -360,36 +365,6 @@ by_signs (fin s m e) (fin t n d) p q l g = go s t (m * up e * down d) (n * up d 
     go true false A B u v p q l g = grind (arith, nat_tests)
     go false true A B u v p q l g = grind (arith, nat_tests)
     go false false A B u v p q l g = grind (arith, nat_tests)
-
--- of two numbers the lesser comes first, and of equal ones the negative
-pub by_comparison : (x y : Float) (o : Ordering) (s t : Bool) → float_partial_cmp x y ≡ Some o
-    → (is_nan x ≡ false → s ≡ is_sign_negative x) → (is_nan y ≡ false → t ≡ is_sign_negative y) → ordering_then o (bool_cmp t s) ≡ placed x y
-by_comparison x y o s t h p q =
-    let numbers = compared x y o h in
-    go o (lt x y) (eq x y) (lt y x) refl refl refl h numbers.0 numbers.1 (p numbers.0) (q numbers.1)
-  where
-    signs : (s t : Bool) → sign_order s t ≡ bool_cmp t s
-    signs true true = refl
-    signs true false = refl
-    signs false true = refl
-    signs false false = refl
-
-    not_less : (g : Bool) → g ≡ lt y x → eq x y ≡ true → lt y x ≡ false
-    not_less true a e = absurd (eq-not_lt y x (eq_flip x y (T_from_true _ e)) (T_from_true _ (sym a)))
-    not_less false a e = sym a
-
-    go : (o : Ordering) (l e g : Bool) → l ≡ lt x y → e ≡ eq x y → g ≡ lt y x → cond l (Some Less) (cond e (Some Equal) (cond g (Some Greater) None)) ≡ Some o
-        → is_nan x ≡ false → is_nan y ≡ false → s ≡ is_sign_negative x → t ≡ is_sign_negative y → ordering_then o (bool_cmp t s) ≡ placed x y
-    go Less true e g a b c h m n p q = sym (numeric x y (sym a))
-    go Equal true e g a b c h m n p q = absurd (cc)
-    go Greater true e g a b c h m n p q = absurd (cc)
-    go Equal false true g a b c h m n p q = sym (signs s t) ∙ ap₂ sign_order p q ∙ sym (by_signs x y m n (sym a) (not_less g c (sym b)))
-    go Less false true g a b c h m n p q = absurd (cc)
-    go Greater false true g a b c h m n p q = absurd (cc)
-    go Greater false false true a b c h m n p q = sym (greater x y (sym c))
-    go Less false false true a b c h m n p q = absurd (cc)
-    go Equal false false true a b c h m n p q = absurd (cc)
-    go o false false false a b c h m n p q = absurd (cc)
 
 -- neither first, one datum and one pattern are one thing
 pub level_is_one : (f : Format) (x y : Float) → T (fits f x) → T (fits f y) → Level x y → x ≡ y

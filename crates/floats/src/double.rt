@@ -1,5 +1,4 @@
 // The wider of the two formats.
-ghost use Rattle.std.specs.Prelude.{refl};
 ghost use Rattle.std.specs.Float.{binary64};
 
 use crate::order::Floating;
@@ -10,10 +9,12 @@ impl Floating for f64 {
 
     ghost datum = { λ x. x };
 
-    ghost compares_data = { λ x y. refl };
-
     fn is_not_a_number(self) -> bool {
         self.is_nan()
+    }
+
+    fn is_less(self, other: f64) -> bool {
+        self < other
     }
 
     fn is_negative(self) -> bool {

@@ -1,16 +1,23 @@
-use Rattle.std.proofs.Common.{sym, ap, ap₂, ◌∙◌}
-use Rattle.std.specs.Ordering.{bool_cmp, ordering_then}
-use Rattle.floats.proofs.Ranks.{by_comparison, not_compared}
+use Rattle.std.proofs.Common.{sym, ap, ◌∙◌}
+use Rattle.floats.specs.TotalOrder.{sign_order}
+use Rattle.floats.proofs.Ranks.{both_nan, number_first, numeric, by_signs, signs}
 use Rattle.floats.proofs.order.place.Goals as goal
 
-pub returns-in-Some-clause-is_total_order : goal.returns-in-Some-clause-is_total_order
-returns-in-Some-clause-is_total_order g c =
-    let compared = sym (g.met.F.Floating.compares_data c.args.a c.args.b) ∙ sym c.partial_cmp.ensures ∙ c.in-Some.is in
-    c.then.ensures
-    ∙ ap (ordering_then c.in-Some.standing) c.cmp.ensures
-    ∙ by_comparison _ _ _ _ _ compared c.is_negative-in-Some.ensures.tells_of_a_number c.is_negative.ensures.tells_of_a_number
+pub returns-in-true-true-clause-is_total_order : goal.returns-in-true-true-clause-is_total_order
+returns-in-true-true-clause-is_total_order g c = sym (both_nan _ _ (sym c.in-true-true.ensures.tells) (sym c.in-true-true.ensures'.tells))
 
-pub returns-in-None-clause-is_total_order : goal.returns-in-None-clause-is_total_order
-returns-in-None-clause-is_total_order g c =
-    let compared = sym (g.met.F.Floating.compares_data c.args.a c.args.b) ∙ sym c.partial_cmp.ensures ∙ c.in-None.is in
-    c.cmp-by_being_none.ensures ∙ ap₂ bool_cmp c.is_not_a_number.ensures.tells c.is_not_a_number-2.ensures.tells ∙ not_compared _ _ compared
+pub returns-in-false-true-clause-is_total_order : goal.returns-in-false-true-clause-is_total_order
+returns-in-false-true-clause-is_total_order g c = sym (number_first _ _ (sym c.in-false-true.ensures.tells) (sym c.in-false-true.ensures'.tells))
+
+pub returns-then-is_less-clause-is_total_order : goal.returns-then-is_less-clause-is_total_order
+returns-then-is_less-clause-is_total_order g c = sym (numeric _ _ (sym c.if-is_less.ensures.tells))
+
+pub returns-else-is_less-2-clause-is_total_order : goal.returns-else-is_less-2-clause-is_total_order
+returns-else-is_less-2-clause-is_total_order g c =
+    let x = sym c.in-false-false.ensures.tells in
+    let y = sym c.in-false-false.ensures'.tells in
+    c.cmp.ensures
+    ∙ signs _ _
+    ∙ ap (λ s. sign_order s c.is_negative.result) (c.is_negative-else-is_less-2.ensures.tells_of_a_number x)
+    ∙ ap (sign_order _) (c.is_negative.ensures.tells_of_a_number y)
+    ∙ sym (by_signs _ _ x y (sym c.if-is_less.ensures.tells) (sym c.if-is_less-2.ensures.tells))
