@@ -23,6 +23,12 @@ under fs i p k a b o e h = record { size = rw (← o, e) h.0; first = rw (← o,
 length-line : (fs : List Field) (i n : ℕ) → n ≡ length (above (parent_of fs i) (line fs)) → length (line fs i) ≡ n + 1
 length-line fs i n e = ap length (line_step fs i) ∙ length_push (above (parent_of fs i) (line fs)) i ∙ ap (λ k. k + 1) (sym e)
 
+pub top_length : (fs : List Field) (i : ℕ) → None ≡ parent_of fs i → length (line fs i) ≡ 1
+top_length fs i o = length-line fs i 0 (rw (← o) refl)
+
+pub under_length : (fs : List Field) (i p : ℕ) → Some p ≡ parent_of fs i → length (line fs i) ≡ length (line fs p) + 1
+under_length fs i p o = length-line fs i (length (line fs p)) (rw (← o) refl)
+
 -- and with the field's own place to the field, if it has room for it
 pub one_more : (fs : List Field) (i : ℕ) (k : Kind) (a : StructAccessor) (v : ℕ) (r : Option StructAccessor) → Above fs i k a → v ≡ place fs i → MatchOption r (a.count ≡ 8) (λ b. (b.count ≡ a.count + 1) × (take b.count b.places ≡ take a.count a.places ++ (v ∷ [])) × (b.kind ≡ a.kind)) → MatchOption r (8 < length (line fs i)) (λ b. (b.count ≡ length (line fs i)) × (take b.count b.places ≡ map (place fs) (line fs i)) × (b.kind ≡ k))
 one_more fs i k a v None h e full = omega (arith, length-line fs i a.count h.size)

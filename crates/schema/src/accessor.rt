@@ -1,5 +1,5 @@
 // The accessor of a primitive field.
-ghost use Rattle.std.specs.Prelude.{◌≡◌, ◌+◌, ◌≤◌, ◌∷◌, [], ◌++◌, take, MatchOption};
+ghost use Rattle.std.specs.Prelude.{◌≡◌, ◌+◌, ◌≤◌, ◌∷◌, [], ◌++◌, take, Decides, MatchOption};
 
 use values::kinds::Kind;
 
@@ -27,6 +27,13 @@ impl StructAccessor {
             count: 0,
             kind,
         }
+    }
+
+    // Whether it has no room for a place more.
+    pub(crate) fn is_full(&self) -> bool
+        ensures asks_for_eight { Decides result (self.now.count ≡ 8) }
+    {
+        self.count == MAX_PLACES
     }
 
     // The accessor with one more place, if it has room.

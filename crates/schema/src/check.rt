@@ -1,10 +1,12 @@
 // The check of a schema.
 ghost use Rattle.std.specs.Prelude.{◌≡◌, ◌+◌, ◌<◌, ◌≤◌, true, length, is_ok, IfErr, Decides};
 ghost use Rattle.values.specs.declared.refusals.Reason.TheVariants.{SchemaRuleBroken};
+ghost use Rattle.schema.specs.Lines.{line};
 ghost use Rattle.schema.specs.Rules.{Parent, Shallow, NewNumber, NewName, Keeps, Sound, FirstFault};
 ghost use Rattle.schema.specs.Listed.{Formed, ListedNumbers, Listed};
 ghost use Rattle.schema.specs.Theorems.{DescentOfLines, DescentOfNames, UniqueNumbers, UniqueNames, Reachable};
 
+use crate::accessor::MAX_PLACES;
 use crate::fields::{MAX_FIELDS, Schema, Shape};
 use crate::policy::FullNames;
 use lists::list::{Offered, offer};
@@ -40,12 +42,17 @@ impl<'a> Seen<'a> {
     // Whether the next field has a number and a full name that none before it has; then it is one of those before.
     fn takes_next(&mut self) -> bool
         requires has_room { self.old.count < 128 }
+        requires stands_there { self.old.count < length self.old.schema.fields.now }
         ensures decides_that_both_are_new { Decides result (NewNumber self.old.schema.fields.now self.old.count × NewName self.old.schema.fields.now self.old.schema.text.now self.old.count) }
         ensures stays_of_the_schema { self.new.schema ≡ self.old.schema }
         ensures counts_it { result ≡ true → self.new.count ≡ self.old.count + 1 }
     {
         let field = self.count;
         let schema = self.schema;
+        // never so: it tells the compiler that the field's own name can be read once for all those before it
+        if field >= schema.fields.len() {
+            return false;
+        }
         let number = schema.field_at(field).number;
         if offer(&Numbers, &mut self.numbers, 0..field, number) != Offered::Kept
             || offer(&FullNames { schema }, &mut self.names, 0..field, field) != Offered::Kept
@@ -69,12 +76,23 @@ impl<'a> Schema<'a> {
         parent < field && self.field_at(parent).shape == Shape::Struct
     }
 
+    // Whether the field lies at most so many places deep. Its places themselves are not asked for, and not counted.
+    #[tactic(auto, using(crate::proofs::Places::top_length, crate::proofs::Places::under_length))]
+    fn lies_within(&self, field: usize, places: usize) -> bool
+        ensures decides_the_depth { Decides result (length (line self.now.fields.now field) ≤ places) }
+    {
+        match self.parent_of(field) {
+            None => places > 0,
+            Some(parent) => places > 0 && self.lies_within(parent, places - 1),
+        }
+    }
+
     // Whether the field, if primitive, has an accessor.
     fn is_shallow(&self, field: usize) -> bool
-        requires is_small { field < 128 }
         ensures decides_the_depth { Decides result (Shallow self.now.fields.now field) }
     {
-        !matches!(self.field_at(field).shape, Shape::Primitive(_)) || self.accessor(field).is_ok()
+        !matches!(self.field_at(field).shape, Shape::Primitive(_))
+            || self.lies_within(field, MAX_PLACES)
     }
 
     // Whether the field keeps the rules that ask nothing of other numbers and names.

@@ -26,7 +26,7 @@ impl<'a> Schema<'a> {
     pub(crate) fn parent_of(&self, i: usize) -> Option<usize>
         ensures is_the_earlier_parent { result ≡ parent_of self.now.fields.now i }
     {
-        self.field_at(i).parent.filter(|&parent| parent < i)
+        self.fields.get(i)?.parent.filter(|&parent| parent < i)
     }
 
     // How many earlier fields have the same parent.

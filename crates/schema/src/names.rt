@@ -14,7 +14,7 @@ pub enum Case {
 }
 
 // What is left of a name: bytes, and the field whose full name stands before them, parted by a dot.
-#[derive(Drop)]
+#[derive(Clone, Copy)]
 pub struct Tail<'a> {
     pub schema: Schema<'a>,
     pub left: &'a [u8],

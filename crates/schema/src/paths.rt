@@ -18,6 +18,10 @@ impl<'a> Schema<'a> {
             None => StructAccessor::of_kind(kind),
             Some(parent) => self.path_to(parent, kind)?,
         };
+        // a place is counted only where it fits
+        if above.is_full() {
+            return None;
+        }
         above.then(self.place_of(field) as u16)
     }
 

@@ -1,7 +1,6 @@
 use Rattle.std.proofs.Common.{◌≡◌, Bool, ◌||◌, List, [], ◌∷◌, refl, ap, rules, tests, ◌∙◌}
 use Rattle.std.specs.List.{list_any}
-use Rattle.std.proofs.lemmas.Iterator.{YieldsList-from_slice, YieldsList-from_take}
-use Rattle.std.proofs.lemmas.Iterator.Adapters.{YieldsList-from_skip}
+use Rattle.std.proofs.lemmas.Iterator.{YieldsList-from_slice}
 use Rattle.std.proofs.lemmas.Iterator.Search.{any_from_yields_List}
 use Rattle.lists.specs.Keep.{against}
 use Rattle.lists.proofs.offers.passes_any.Goals as goal
@@ -14,5 +13,5 @@ pub returns : goal.returns
 returns g c =
     let p = g.P.Test.passed c.args.policy.now in
     let x = c.args.x.now in
-    let cells = YieldsList-from_take c.saturating_sub-count.result (YieldsList-from_skip c.args.cells.now.start (YieldsList-from_slice c.args.items.now (cc)) (cc)) (cc) in
-    record { passes_against_one = any_from_yields_List (λ y. p y x) _ _ c.any.result c.any.ensures.ran cells (λ y b q k. search (rules, tests)) ∙ rw c.saturating_sub-count.ensures (any-against p _ x) }
+    let held = YieldsList-from_slice c.args.held.now (cc) in
+    record { passes_against_one = any_from_yields_List (λ y. p y x) _ _ c.any.result c.any.ensures.ran held (λ y b q k. search (rules, tests)) ∙ any-against p _ x }
