@@ -31,7 +31,7 @@ word_of w = word_at w.line.now w.place
 abbrev pub words_left : Words → List Word
 words_left s = words_from s.line.now s.at
 
--- a call gave the first word of what was left and passed it, or none was left
+-- a call gave the first word of what was left and passed it; or none was left, and it stays where it was
 abbrev pub Steps : Words → Option Placed → Words → Type 0
-Steps s None t = Next s.line.now s.at None
+Steps s None t = Next s.line.now s.at None × (t ≡ s)
 Steps s (Some w) t = Next s.line.now s.at (Some w.place) × ((w.line ≡ s.line) × ((t.line ≡ s.line) × (t.at ≡ w.place.start + w.place.len)))

@@ -1,6 +1,7 @@
 // Literals: a kind, a colon and a value.
-ghost use Rattle.std.specs.Prelude.{◌≡◌};
+ghost use Rattle.std.specs.Prelude.{◌≡◌, cond, codes};
 ghost use Rattle.reading.specs.Literals.{quoteless, enclosed};
+ghost use Rattle.reading.specs.Writing.{Reads};
 ghost use Rattle.reading.specs.Placed.{TextRead, ValueRead, LiteralRead, FirstColon};
 
 use crate::kinds::read_kind;
@@ -39,13 +40,24 @@ pub fn read_text(word: Word) -> Option<Span>
     is_quoteless(bare.of(line)).then_some(bare)
 }
 
+// The truth value of that name.
+fn truth(text: &[u8]) -> Option<bool>
+    ensures reads_the_name { Reads (λ b t. t ≡ cond b (codes "true") (codes "false")) text.now result }
+{
+    match text {
+        b"true" => Some(true),
+        b"false" => Some(false),
+        _ => None,
+    }
+}
+
 // The value of a storage that a word is.
 fn read_value(word: Word, storage: Storage) -> Option<Value>
     ensures goes_by_the_storage { ValueRead word.entry.line.now storage word.entry.place result }
 {
     let text = word.text();
     match storage {
-        Storage::Boolean => parse(text).map(Value::Boolean),
+        Storage::Boolean => truth(text).map(Value::Boolean),
         Storage::Int => i32::read(text).map(Value::Int),
         Storage::Long => i64::read(text).map(Value::Long),
         Storage::Float => parse(text).map(Value::Float),

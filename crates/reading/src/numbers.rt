@@ -12,11 +12,22 @@ use std::str::FromStr;
 pub trait Number: FromStr<Err = ParseIntError> {
     ghost written: { Self → List ℕ → Type 0 };
 
+    // What the standard library reads in the bytes: a step of its own, so that each width can be turned alone.
+    fn parsed(text: &[u8]) -> Option<Self>
+        ensures is_what_std_reads { Parsed Self.from_str_gives text.now result }
+    {
+        parse(text)
+    }
+
     // The number that the text writes.
     fn read(text: &[u8]) -> Option<Self>
         ensures reads_as_printed { Reads written text.now result }
     {
-        if is_plain(text) { parse(text) } else { None }
+        if is_plain(text) {
+            Self::parsed(text)
+        } else {
+            None
+        }
     }
 
     ghost is_plain: { (n : Self) (t : List ℕ) → written n t → plain t ≡ true };

@@ -25,7 +25,9 @@ impl<'a> Word<'a> {
     pub fn is_left_open(self) -> bool
         ensures counts_by_twos { result ≡ left_open false (text_of self.entry) }
     {
-        leaves_open(self.text())
+        self.text()
+            .iter()
+            .fold(false, |quoted, byte| turn(*byte, quoted))
     }
 
     // Whether it is that word.
@@ -95,13 +97,6 @@ fn turn(byte: u8, quoted: bool) -> bool
     ensures opens_or_closes { result ≡ turned byte quoted }
 {
     if byte == b'"' { !quoted } else { quoted }
-}
-
-// Whether a quote is open at the end.
-fn leaves_open(text: &[u8]) -> bool
-    ensures turns_at_each { result ≡ fold (λ quoted byte. turned byte quoted) false text.now }
-{
-    text.iter().fold(false, |quoted, byte| turn(*byte, quoted))
 }
 
 // How many blanks stand before the first other byte.

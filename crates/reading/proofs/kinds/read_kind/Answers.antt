@@ -1,20 +1,25 @@
-use Rattle.std.proofs.Common.{◌∙◌}
-use Rattle.reading.proofs.Named.{no_text, other_name}
+use Rattle.std.proofs.Common.{refl}
+use Rattle.reading.proofs.Named.{other_name}
 use Rattle.reading.proofs.kinds.read_kind.Goals as goal
 
-pub returns-in_err-as_str : goal.returns-in_err-as_str
-returns-in_err-as_str c = rw c.from_residual.ensures (record { reads_the_name = no_text c.args.text.now c.in_err-as_str.ensures.is_text_of_those_bytes })
+pub returns-then-spells-7 : goal.returns-then-spells-7
+returns-then-spells-7 c = record { reads_the_name = (tt, c.if-spells-7.ensures.tells_equal_bytes.0 refl) }
 
-pub returns-in_default : goal.returns-in_default
-returns-in_default c =
-    let same = c.in_ok-as_str.ensures.is_text_of_those_bytes in
-    let other = c.in_default in
+pub returns-then-spells-8 : goal.returns-then-spells-8
+returns-then-spells-8 c = record { reads_the_name = (tt, c.if-spells-8.ensures.tells_equal_bytes.0 refl) }
+
+pub returns-then-spells-9 : goal.returns-then-spells-9
+returns-then-spells-9 c = record { reads_the_name = (tt, c.if-spells-9.ensures.tells_equal_bytes.0 refl) }
+
+pub returns-else-spells-13 : goal.returns-else-spells-13
+returns-else-spells-13 c =
     record {
       reads_the_name =
           other_name c.args.text.now c.fixed.result
-          (λ e. other.not-boolean (same ∙ e)) (λ e. other.not-int (same ∙ e)) (λ e. other.not-date (same ∙ e)) (λ e. other.not-long (same ∙ e))
-          (λ e. other.not-time (same ∙ e)) (λ e. other.not-timestamp (same ∙ e)) (λ e. other.not-timestamptz (same ∙ e))
-          (λ e. other.not-timestamp_ns (same ∙ e)) (λ e. other.not-timestamptz_ns (same ∙ e)) (λ e. other.not-float (same ∙ e))
-          (λ e. other.not-double (same ∙ e)) (λ e. other.not-string (same ∙ e)) (λ e. other.not-binary (same ∙ e))
+          c.if-spells.ensures.tells_equal_bytes c.if-spells-2.ensures.tells_equal_bytes c.if-spells-3.ensures.tells_equal_bytes
+          c.if-spells-4.ensures.tells_equal_bytes c.if-spells-5.ensures.tells_equal_bytes c.if-spells-6.ensures.tells_equal_bytes
+          c.if-spells-7.ensures.tells_equal_bytes c.if-spells-8.ensures.tells_equal_bytes c.if-spells-9.ensures.tells_equal_bytes
+          c.if-spells-10.ensures.tells_equal_bytes c.if-spells-11.ensures.tells_equal_bytes c.if-spells-12.ensures.tells_equal_bytes
+          c.if-spells-13.ensures.tells_equal_bytes
           c.fixed.ensures.reads_the_length;
     }

@@ -7,20 +7,20 @@ use Rattle.reading.proofs.literals.read_value.Goals as goal
 
 pub returns-in-Boolean : goal.returns-in-Boolean
 returns-in-Boolean c =
-    let made : MatchOption c.parse.result (c.map.result ≡ None) (λ b. c.map.result ≡ Some (V.Boolean b)) = search rules in
+    let made : MatchOption c.truth.result (c.map.result ≡ None) (λ b. c.map.result ≡ Some (V.Boolean b)) = search rules in
     record {
       goes_by_the_storage =
-          truth_value c.args.word.line.now c.text-text.result.now c.args.storage c.args.word.place c.parse.result c.map.result
-          c.in-Boolean.is c.text-text.ensures.are_the_bytes_there c.parse.ensures.is_what_std_reads made;
+          truth_value c.args.word.line.now c.text-text.result.now c.args.storage c.args.word.place c.truth.result c.map.result
+          c.in-Boolean.is c.text-text.ensures.are_the_bytes_there c.truth.ensures.reads_the_name made;
     }
 
 pub returns-in-Float : goal.returns-in-Float
 returns-in-Float c =
-    let made : MatchOption c.parse-in-Float.result (c.map-in-Float.result ≡ None) (λ x. c.map-in-Float.result ≡ Some (V.Float x)) = search rules in
+    let made : MatchOption c.parse.result (c.map-in-Float.result ≡ None) (λ x. c.map-in-Float.result ≡ Some (V.Float x)) = search rules in
     record {
       goes_by_the_storage =
-          single_value c.args.word.line.now c.text-text.result.now c.args.storage c.args.word.place c.parse-in-Float.result c.map-in-Float.result
-          c.in-Float.is c.text-text.ensures.are_the_bytes_there c.parse-in-Float.ensures.is_what_std_reads made;
+          single_value c.args.word.line.now c.text-text.result.now c.args.storage c.args.word.place c.parse.result c.map-in-Float.result
+          c.in-Float.is c.text-text.ensures.are_the_bytes_there c.parse.ensures.is_what_std_reads made;
     }
 
 pub returns-in-Double : goal.returns-in-Double

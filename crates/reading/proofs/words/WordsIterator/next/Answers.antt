@@ -13,7 +13,7 @@ read c =
 pub returns-in_err-start-clause-steps : goal.returns-in_err-start-clause-steps
 returns-in_err-start-clause-steps c =
     rw c.from_residual-in_err-start.ensures
-    (next_none c.args.self.now.line.now c.in_ok-rest.rest.now c.args.self.now.at c.in_ok-rest.ensures.lookup.0.2 c.in_err-start.ensures.is_the_place_of_the_other)
+    (next_none c.args.self.now.line.now c.in_ok-rest.rest.now c.args.self.now.at c.in_ok-rest.ensures.lookup.0.2 c.in_err-start.ensures.is_the_place_of_the_other, refl)
 
 pub overflow_add-self : goal.overflow_add-self
 overflow_add-self c =
