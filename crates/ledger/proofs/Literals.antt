@@ -68,12 +68,12 @@ module _ {X : Type 0} where
   pub kept_every : (p : X → Bool) (q : X → X → Bool) (xs : List X) → list_all p xs ≡ true → list_all p (fresh q [] xs) ≡ true
   kept_every p q xs e = fresh_every p q [] xs e
 
-pub none_fails : (p : Literal → Bool) (ls : List Literal) (i : ℕ) → first_failing p i ls ≡ None → list_all p ls ≡ true
+pub none_fails : {X : Type 0} (p : X → Bool) (xs : List X) (i : ℕ) → first_failing p i xs ≡ None → list_all p xs ≡ true
 none_fails p [] i e = refl
-none_fails p (l ∷ ls) i e = by (p l) refl e (λ h. none_fails p ls (i + 1) h)
+none_fails p (x ∷ xs) i e = by (p x) refl e (λ h. none_fails p xs (i + 1) h)
   where
-    by : (b : Bool) → p l ≡ b → cond b (first_failing p (i + 1) ls) (Some i) ≡ None → (first_failing p (i + 1) ls ≡ None → list_all p ls ≡ true) → p l && list_all p ls ≡ true
-    by true d e f = and_from (p l) (list_all p ls) d (f e)
+    by : (b : Bool) → p x ≡ b → cond b (first_failing p (i + 1) xs) (Some i) ≡ None → (first_failing p (i + 1) xs ≡ None → list_all p xs ≡ true) → p x && list_all p xs ≡ true
+    by true d e f = and_from (p x) (list_all p xs) d (f e)
     by false d e f = let z : ◌≡◌ {A = ℕ} 0 1 = cc in absurd (omega arith)
 
 pub used_is : (ls : List Literal) (k : ℕ) → k ≤ literal_room ls → used_of ls k ≡ take k ls

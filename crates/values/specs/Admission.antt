@@ -7,10 +7,10 @@ use Rattle.values.specs.declared.refusals.Refused.{Refused}
 use Rattle.values.specs.Contents.{text_inside}
 use Rattle.values.specs.Kept.{well_kept}
 
--- the index of the first literal that fails the test, the list's first having the index i
-abbrev pub first_failing : (Literal → Bool) → ℕ → List Literal → Option ℕ
+-- the index of the first element that fails the test, the list's first having the index i
+abbrev pub first_failing : {X : Type 0} → (X → Bool) → ℕ → List X → Option ℕ
 first_failing p i [] = None
-first_failing p i (l ∷ ls) = cond (p l) (first_failing p (i + 1) ls) (Some i)
+first_failing p i (x ∷ xs) = cond (p x) (first_failing p (i + 1) xs) (Some i)
 
 abbrev pub refusal : Reason → ℕ → Result (Unit {0}) Refused
 refusal r i = Err (record { reason = r; place = i })
